@@ -1,0 +1,4 @@
+// f64's own operations.
+pub fn one() -> u8 {
+    1
+}
