@@ -14,6 +14,7 @@ use lib.Ieee.Fits.{down-pos, and-l, and-r, and-i}
 use lib.Ieee.Exact.{HasValue}
 use lib.Ieee.Scale.{finite, round-same}
 use lib.Ieee.Positive.{den, den-pos}
+use Rattle.number.specs.Sign.{absOf}
 use Rattle.number.specs.Signed.{Leq, products, plus, minus, _⊑_, le→⊑, ⊑→le}
 use Rattle.number.specs.Order.{naught, le-nan-left, le-left, le-right, le-refl, le-trans, neg-le}
 use Rattle.number.specs.Round.{rounded-mono, add-rounded, half-rounded, add-mono, round-scaled, le-of-values, value-finite, round-zero, two}
@@ -80,20 +81,15 @@ within-between f lo x hi p q h k =
     within-i f x (le-trans (low-end f) lo x (within-low f lo p) h) (le-trans x hi (high-end f) k (within-high f hi q))
 
 -- ---- the same test by the magnitude
-unfoldable pub abs : Float → Float
-abs nan = nan
-abs (inf s) = inf false
-abs (fin s m e) = fin false m e
-
-pub abs-within : (f : Format) (x : Float) → T (le (abs x) (high-end f)) → T (within f x)
-unfolding abs neg
+pub abs-within : (f : Format) (x : Float) → T (le (absOf x) (high-end f)) → T (within f x)
+unfolding absOf neg
 abs-within f nan h = absurd (subst T (le-nan-left (high-end f)) h)
 abs-within f (inf s) h = unfold le in absurd h
 abs-within f (fin false m e) h = within-i f (fin false m e) (⊑→le (low-end f) (fin false m e) tt tt (omega arith)) h
 abs-within f (fin true m e) h = within-i f (fin true m e) (neg-le (fin false m e) (high-end f) h) (⊑→le (fin true m e) (high-end f) tt tt (omega arith))
 
-pub within-abs : (f : Format) (x : Float) → T (within f x) → T (le (abs x) (high-end f))
-unfolding abs neg
+pub within-abs : (f : Format) (x : Float) → T (within f x) → T (le (absOf x) (high-end f))
+unfolding absOf neg
 within-abs f nan h = absurd (within-finite f nan h)
 within-abs f (inf s) h = absurd (within-finite f (inf s) h)
 within-abs f (fin false m e) h = within-high f (fin false m e) h

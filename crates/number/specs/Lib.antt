@@ -1,8 +1,13 @@
 pub mod Notation
+pub mod Sign
+pub mod Near
+pub mod Literals
+pub mod Cast
 pub mod Signed
 pub mod Order
 pub mod MaxMin
 pub mod Round
+pub mod Below
 pub mod Halving
 pub mod Pattern
 pub mod Next

@@ -1,37 +1,23 @@
--- `max` and `min` of two floats: a NaN yields the other operand. Which of two equal operands is taken the laws leave open, so a proof that cites
--- only them holds for the first of the two (`maxOf`, `minOf`) and for clause 9.6, which puts -0 below +0 (`maxNumber`, `minNumber`). Assumes nothing.
+-- max and min of document 01: a NaN yields the other operand, equal operands yield the first. Their laws leave open which of two equal
+-- operands is taken, so a proof that cites only the laws does not rest on it. Assumes nothing.
 use mathlib.Core.Path.{_≡_, refl, sym, subst}
 use mathlib.Core.Logic.{_⊎_, inl, inr, ⊎-elim}
-use mathlib.Core.Bool.{Bool, true, false, not, _&&_, _||_, cond}
+use mathlib.Core.Bool.{Bool, true, false, not}
 use lib.Dec.{T}
-use lib.Ieee.{Float, nan, inf, fin, lt, le, eq, isNan}
-use lib.Ieee.Fits.{and-l}
-use Rattle.number.specs.Signed.{or-split}
-use Rattle.number.specs.Order.{number, le-refl, le-trans, le-nan-left, le-nan-right, lt→le, eq→le, not-lt→le}
+use lib.Ieee.{Float, nan, lt, le, isNan}
+use Rattle.number.specs.Notation.{if_then_else_}
+use Rattle.number.specs.Order.{number, le-refl, le-trans, le-nan-left, le-nan-right, lt→le, not-lt→le}
 
 -- ---- the definitions
 -- b where the test t passes, else a; where one is a NaN, the other
 abbrev pub choose : (Float → Float → Bool) → Float → Float → Float
-choose t a b = cond (isNan a) b (cond (isNan b) a (cond (t a b) b a))
+choose t a b = if isNan a then b else if isNan b then a else if t a b then b else a
 
--- of equal operands the first
 unfoldable pub maxOf : Float → Float → Float
 maxOf a b = choose lt a b
 
 unfoldable pub minOf : Float → Float → Float
 minOf a b = choose (λ x y. lt y x) a b
-
--- the sign bit; `maximumNumber` and `minimumNumber` of clause 9.6 tell equal operands apart by it
-abbrev pub negative : Float → Bool
-negative nan = false
-negative (inf s) = s
-negative (fin s m e) = s
-
-unfoldable pub maxNumber : Float → Float → Float
-maxNumber a b = choose (λ x y. lt x y || (eq x y && negative x)) a b
-
-unfoldable pub minNumber : Float → Float → Float
-minNumber a b = choose (λ x y. lt y x || (eq y x && negative y)) a b
 
 -- ---- the laws: `op a b` is one of the two, and bounds each that is no NaN
 pub record Bounds (r : Float → Float → Bool) (op : Float → Float → Float) : Type 0 where
@@ -54,27 +40,30 @@ module _ (r t : Float → Float → Bool) (self : (a : Float) → T (number a) �
     (yes-b : (a b : Float) → T (number a) → T (number b) → T (t a b) → T (r a b))
     (no-a : (a b : Float) → T (number a) → T (number b) → T (not (t a b)) → T (r b a)) where
   choose-left : (a b : Float) → T (number a) → T (r a (choose t a b))
+  unfolding if_then_else_
   choose-left a b p = go (isNan a) (isNan b) (t a b) p (self a) (yes-b a b p)
     where
-      go : (i j k : Bool) → T (not i) → (T (not i) → T (r a a)) → (T (not j) → T k → T (r a b)) → T (r a (cond i b (cond j a (cond k b a))))
+      go : (i j k : Bool) → T (not i) → (T (not i) → T (r a a)) → (T (not j) → T k → T (r a b)) → T (r a (if i then b else if j then a else if k then b else a))
       go true j k q f g = absurd q
       go false true k q f g = f tt
       go false false true q f g = g tt tt
       go false false false q f g = f tt
 
   choose-right : (a b : Float) → T (number b) → T (r b (choose t a b))
+  unfolding if_then_else_
   choose-right a b p = go (isNan a) (isNan b) (t a b) p (self b) (λ n. no-a a b n p)
     where
-      go : (i j k : Bool) → T (not j) → (T (not j) → T (r b b)) → (T (not i) → T (not k) → T (r b a)) → T (r b (cond i b (cond j a (cond k b a))))
+      go : (i j k : Bool) → T (not j) → (T (not j) → T (r b b)) → (T (not i) → T (not k) → T (r b a)) → T (r b (if i then b else if j then a else if k then b else a))
       go true j k q f g = f q
       go false true k q f g = absurd q
       go false false true q f g = f tt
       go false false false q f g = g tt tt
 
   choose-one-of : (a b : Float) → (choose t a b ≡ a) ⊎ (choose t a b ≡ b)
+  unfolding if_then_else_
   choose-one-of a b = go (isNan a) (isNan b) (t a b)
     where
-      go : (i j k : Bool) → (cond i b (cond j a (cond k b a)) ≡ a) ⊎ (cond i b (cond j a (cond k b a)) ≡ b)
+      go : (i j k : Bool) → (if i then b else if j then a else if k then b else a ≡ a) ⊎ (if i then b else if j then a else if k then b else a ≡ b)
       go true j k = inr refl
       go false true k = inl refl
       go false false true = inr refl
@@ -90,26 +79,6 @@ max-laws = choose-bounds le lt le-refl (λ a b p q h. lt→le a b h) not-lt→le
 pub min-laws : IsMin minOf
 unfolding minOf
 min-laws = choose-bounds ge (λ x y. lt y x) le-refl (λ a b p q h. lt→le b a h) (λ a b p q h. not-lt→le b a q p h)
-
--- the test of clause 9.6, where it passes and where it fails
-either-le : (x y : Float) (u : Bool) → T (lt x y || (eq x y && u)) → T (le x y)
-either-le x y u h = ⊎-elim (lt→le x y) (λ k. eq→le x y (and-l (eq x y) u k)) (or-split (lt x y) (eq x y && u) h)
-
-not-or : (a b : Bool) → T (not (a || b)) → T (not a)
-not-or true b h = h
-not-or false b h = tt
-
-pub maxNumber-laws : IsMax maxNumber
-unfolding maxNumber
-maxNumber-laws =
-    choose-bounds le (λ x y. lt x y || (eq x y && negative x)) le-refl (λ a b p q h. either-le a b (negative a) h)
-    (λ a b p q h. not-lt→le a b p q (not-or (lt a b) (eq a b && negative a) h))
-
-pub minNumber-laws : IsMin minNumber
-unfolding minNumber
-minNumber-laws =
-    choose-bounds ge (λ x y. lt y x || (eq y x && negative y)) le-refl (λ a b p q h. either-le b a (negative b) h)
-    (λ a b p q h. not-lt→le b a q p (not-or (lt b a) (eq b a && negative b) h))
 
 -- ---- what follows from the laws, whatever the choice
 -- what holds of both operands holds of the result: that the format holds it, a bound, that it is no NaN

@@ -41,7 +41,6 @@ nextUp f (fin true (suc m) e) = neg (before f (fin false (suc m) e))
 nextUp f (fin false (suc m) e) = after f (fin false (suc m) e)
 
 unfoldable pub nextDown : Format → Float → Float
-unfolding nextUp
 nextDown f x = neg (nextUp f (neg x))
 
 -- ---- at either zero
@@ -50,7 +49,7 @@ unfolding nextUp
 nextUp-zero f s = refl
 
 pub nextDown-zero : (f : Format) (s : Bool) → nextDown f (fin s 0 (pos 0)) ≡ minus-tiny f
-unfolding nextDown neg
+unfolding nextDown nextUp neg
 nextDown-zero f s = refl
 
 pub zero≤tiny : (f : Format) (s : Bool) → T (le (fin s 0 (pos 0)) (tiny f)) × T (le (minus-tiny f) (fin s 0 (pos 0)))
@@ -77,7 +76,7 @@ tiny≤' f (fin true m e) h k = absurd k
 tiny≤' f (fin false zero e) h k = absurd (omega (arith, simp zero-mul at (lt→⊏ naught (fin false 0 e) tt tt k)))
 tiny≤' f (fin false (suc m) e) h k =
     ⊑→le (tiny f) (fin false (suc m) e) tt tt
-    (rw (low-suc f) (omega (arith, at-least-one (suc m) (up e) (down e) (2 ^ low f) (zero-lt-suc m) (up-pos e) (fits-parts f false m e h .1))))
+    (rw (low-suc f) (omega (arith, at-least-one (suc m) (up e) (down e) (2 ^ low f) (zero-lt-suc m) (up-pos e) (fits-parts f false (suc m) e h .1))))
 
 pub tiny≤ : (f : Format) (s : Bool) (x : Float) → T (fits f x) → T (lt (fin s 0 (pos 0)) x) → T (le (tiny f) x)
 tiny≤ f s x h k = tiny≤' f x h (le-lt-trans naught (fin s 0 (pos 0)) x (zeros-le false s) k)
@@ -92,9 +91,13 @@ unfolding toBits
 inf-top binary32 = lit< tt
 inf-top binary64 = lit< tt
 
-pub no-nan-bits : (f : Format) (b : ℕ) → b ≤ toBits f (inf false) → T (not (nanBits f b))
+-- a pattern, less its sign bit, up to an infinity's is no NaN's
+pub no-nan-below : (f : Format) (b : ℕ) → b % top f ≤ toBits f (inf false) → T (not (nanBits f b))
 unfolding toBits
-no-nan-bits f b h = subst (λ (x : Bool). T (not x)) (sym (nanBits-above f b)) (le→nltb (ones f * hid f) (b % top f) (omega (arith, mod-le b (top f))))
+no-nan-below f b h = subst (λ (x : Bool). T (not x)) (sym (nanBits-above f b)) (le→nltb (ones f * hid f) (b % top f) (omega arith))
+
+pub no-nan-bits : (f : Format) (b : ℕ) → b ≤ toBits f (inf false) → T (not (nanBits f b))
+no-nan-bits f b h = no-nan-below f b (omega (arith, mod-le b (top f)))
 
 no-nan : (f : Format) (b : ℕ) → b ≤ toBits f (inf false) → T (number (ofBits f b))
 no-nan f b h = subst (λ (x : Bool). T (not x)) (nanBits-is f b) (no-nan-bits f b h)

@@ -74,7 +74,7 @@ units-under : (f : Format) (m : ℕ) (e : ℤ) → T (fits f (fin false m e)) �
 units-under f zero e h = le-trans (le-of-eq (simp (zero-mul, zero-div))) (le-of-lt (pow-pos (low f + suc (emax f))))
 units-under f (suc m) e h =
     le-of-lt (div-lt-iff-lt-mul (down-pos e) .1
-    (lt-of-lt-of-le (mul-lt-mul-of-pos-right (fits-parts f false m e h .2) (pow-pos (low f)))
+    (lt-of-lt-of-le (mul-lt-mul-of-pos-right (fits-parts f false (suc m) e h .2) (pow-pos (low f)))
     (le-of-eq (mul-right-comm (2 ^ suc (emax f)) (down e) (2 ^ low f) ∙ ap (λ (x : ℕ). x * down e) (mul-comm (2 ^ suc (emax f)) (2 ^ low f) ∙ sym (pow-add 2 (low f) (suc (emax f))))))))
 
 pub bits-mono : (f : Format) (x y : Float) → T (fits f x) → T (fits f y) → T (signless x) → T (signless y) → T (le x y) → toBits f x ≤ toBits f y

@@ -1,16 +1,18 @@
 -- Rounding keeps the order of fractions with a sign, so a sum of floats grows with each operand. And it changes nothing at a fraction that
 -- the format holds, so doubling is exact where it does not overflow. Assumes nothing.
-use mathlib.Core.Path.{_≡_, refl, sym, ap, _∙_, ap₂}
+use mathlib.Core.Path.{_≡_, refl, sym, ap, _∙_, ap₂, subst}
 use mathlib.Core.Logic.{_⊎_, inl, inr}
 use Prim.Native.Nat.{ℕ, zero, suc, _+_, _-_, _*_, _^_, _%_, _≤_, _<_, zero-le}
 use native.Mathlib.Nat.{mul-pos, mul-one, mul-comm, add-mul, sub-add-cancel, zero-mul, le-of-eq, eq-of-mul-eq-mul-right, one-mul, le-of-suc-le-suc, lt-of-not-le, not-le-of-lt, mul-le-mul-right, lt-of-lt-of-le, mul-lt-mul-of-pos-right, lt-of-mul-lt-mul-right}
 use native.Mathlib.Omega.{arith}
 use mathlib.Core.Bool.{Bool, true, false, not, _&&_, cond, true≢false, false≢true}
-use lib.Dec.{T, ltb, leb, eqb, ltb→lt, leb→le, nltb→le}
+use lib.Dec.{T, ltb, leb, eqb, ltb→lt, leb→le, nltb→le, eqb→eq}
 use lib.Pow.{pow-pos, pow-add, pow-lt}
 use lib.IntN.{ℤ, pos, negsuc}
-use lib.Ieee.{Float, nan, inf, fin, Format, prec, emax, low, up, down, odd, units, round, sum, add, div, neg, le, fits}
-use lib.Ieee.Fits.{down-pos, and-l, and-r}
+use lib.Ieee.{Float, nan, inf, fin, Format, prec, emax, low, up, down, minus as difference, odd, units, round, sum, add, div, neg, le, fits}
+use lib.Ieee.Digits.{minus-val}
+use lib.Ieee.Fits.{up-pos, down-pos, and-l, and-r}
+use borrow.Author.Tests.{le-leb, lt-leb}
 use lib.Ieee.Exact.{HasValue, round-exact}
 use lib.Ieee.Order.{round-mono}
 use lib.Ieee.Scale.{finite}
@@ -172,29 +174,25 @@ add-mono f x y x' y' p q p' q' h k =
     (sum-leq (plus x) (minus x) (den x) (plus x') (minus x') (den x') (plus y) (minus y) (den y) (plus y') (minus y') (den y') (le→⊑ x x' p p' h) (le→⊑ y y' q q' k))
 
 -- ---- exactness: what the format holds, times a power of two, is not changed by rounding as long as it does not overflow
--- 2 ^ e is a whole number of the format's smallest values
-grain : (e : ℤ) (l : ℕ) → down e ≤ 2 ^ l → (r : ℕ) × (up e * 2 ^ l ≡ 2 ^ r * down e)
-grain (pos k) l h = (k + l, sym (mul-one (2 ^ (k + l)) ∙ pow-add 2 k l))
-grain (negsuc k) l h = (l - suc k, one-mul (2 ^ l) ∙ ap (λ (x : ℕ). 2 ^ x) (sym (sub-add-cancel reaches)) ∙ pow-add 2 (l - suc k) (suc k))
-  where
-    reaches : suc k ≤ l
-    reaches = le-of-suc-le-suc (lt-of-not-le (λ (g : suc l ≤ suc k). not-le-of-lt (pow-lt g) h))
+-- e is r - l: 2 ^ e is 2 ^ r of 2 ^ -l
+pub exponent-at : (e : ℤ) (l : ℕ) → down e ≤ 2 ^ l → (r : ℕ) × (difference r l ≡ e)
+exponent-at (pos k) l h = let s : k + l - l ≡ k = omega arith in (k + l, rw (le-leb l (k + l) (omega arith)) (ap pos s))
+exponent-at (negsuc k) l h =
+    let g : suc k ≤ l = le-of-suc-le-suc (lt-of-not-le (λ (g : suc l ≤ suc k). not-le-of-lt (pow-lt g) h)) in
+    let s : l - suc (l - suc k) ≡ k = omega arith in
+    (l - suc k, rw (lt-leb l (l - suc k) (omega arith)) (ap negsuc s))
 
-regroup : (n u t l r d : ℕ) → u * l ≡ r * d → n * u * t * l ≡ n * (r * t) * d
-regroup n u t l r d e = simp products (simp products at (ap (λ (z : ℕ). n * t * z) e))
+pub units-at : (e : ℤ) (l r : ℕ) → difference r l ≡ e → (m : ℕ) → m * up e * 2 ^ l ≡ m * 2 ^ r * down e
+units-at e l r i m = subst (λ (z : ℤ). m * up z * 2 ^ l ≡ m * 2 ^ r * down z) i (minus-val m r l)
 
-round-at : (f : Format) (s : Bool) (m : ℕ) (e : ℤ) (t r : ℕ) → up e * 2 ^ low f ≡ 2 ^ r * down e → m < 2 ^ prec f → m * up e * 2 ^ t < 2 ^ suc (emax f) * down e
-    → HasValue (round f s (m * up e * 2 ^ t) (down e)) s (m * up e * 2 ^ t) (down e)
-round-at f s m e t r g small k =
-    let same : m * up e * 2 ^ t * 2 ^ low f ≡ m * 2 ^ (r + t) * down e = rw (pow-add 2 r t) (regroup m (up e) (2 ^ t) (2 ^ low f) (2 ^ r) (down e) g) in
-    let under : m * 2 ^ (r + t) * down e < 2 ^ (low f + suc (emax f)) * down e =
-    rw (← same, pow-add 2 (low f) (suc (emax f))) (lt-of-lt-of-le (mul-lt-mul-of-pos-right k (pow-pos (low f))) (le-of-eq (simp products))) in
-    round-exact f s (m * up e * 2 ^ t) (down e) m (r + t) (down-pos e) small (lt-of-mul-lt-mul-right (down e) under) same
-
--- what `fits` says of a value that is not zero
-pub fits-parts : (f : Format) (s : Bool) (m : ℕ) (e : ℤ) → T (fits f (fin s (suc m) e)) → (suc m < 2 ^ prec f) × (down e ≤ 2 ^ low f) × (suc m * up e < 2 ^ suc (emax f) * down e)
+-- what `fits` says of a finite value
+pub fits-parts : (f : Format) (s : Bool) (m : ℕ) (e : ℤ) → T (fits f (fin s m e)) → (m < 2 ^ prec f) × (down e ≤ 2 ^ low f) × (m * up e < 2 ^ suc (emax f) * down e)
 unfolding fits
-fits-parts f s m e h =
+fits-parts f s zero e h =
+    let one : up e * down e ≡ 1 = eqb→eq (up e * down e) 1 h in
+    let small : down e ≤ 1 = omega (arith, one-mul (down e), mul-le-mul-right (down e) (up-pos e)) in
+    (pow-pos (prec f), omega (arith, pow-pos (low f)), subst (λ (z : ℕ). z < 2 ^ suc (emax f) * down e) (sym (zero-mul (up e))) (mul-pos (pow-pos (suc (emax f))) (down-pos e)))
+fits-parts f s (suc m) e h =
     let a = eqb (suc m % 2) 1 in
     let b = ltb (suc m) (2 ^ prec f) in
     let c = leb (down e) (2 ^ low f) in
@@ -207,8 +205,12 @@ fits-parts f s m e h =
 
 pub round-scaled : (f : Format) (s : Bool) (m : ℕ) (e : ℤ) (t : ℕ) → T (fits f (fin s m e)) → m * up e * 2 ^ t < 2 ^ suc (emax f) * down e
     → HasValue (round f s (m * up e * 2 ^ t) (down e)) s (m * up e * 2 ^ t) (down e)
-round-scaled f s zero e t h k = round-exact f s (0 * up e * 2 ^ t) (down e) 0 0 (down-pos e) (pow-pos (prec f)) (pow-pos (low f + suc (emax f))) (simp zero-mul)
-round-scaled f s (suc m) e t h k =
+round-scaled f s m e t h k =
     let p = fits-parts f s m e h in
-    let g = grain e (low f) (p .1) in
-    round-at f s (suc m) e t (g .0) (g .1) (p .0) k
+    let g = exponent-at e (low f) (p .1) in
+    let r = g .0 in
+    let same : m * up e * 2 ^ t * 2 ^ low f ≡ m * 2 ^ (r + t) * down e =
+    rw (pow-add 2 r t) (simp products (simp products at (ap (λ (z : ℕ). z * 2 ^ t) (units-at e (low f) r (g .1) m)))) in
+    let under : m * 2 ^ (r + t) * down e < 2 ^ (low f + suc (emax f)) * down e =
+    rw (← same, pow-add 2 (low f) (suc (emax f))) (lt-of-lt-of-le (mul-lt-mul-of-pos-right k (pow-pos (low f))) (le-of-eq (simp products))) in
+    round-exact f s (m * up e * 2 ^ t) (down e) m (r + t) (down-pos e) (p .0) (lt-of-mul-lt-mul-right (down e) under) same
