@@ -9,8 +9,8 @@
 //! post-order traversal to avoid recursion depth issues on deep trees.
 
 use crate::error::EmlError;
-use crate::tree::{EmlNode, EmlTree};
 use crate::standins::Complex64;
+use crate::tree::{EmlNode, EmlTree};
 
 /// Evaluation context holding variable bindings.
 #[derive(Clone, Debug)]

@@ -76,16 +76,16 @@ le-nan-right (inf s) = refl
 le-nan-right (fin s m e) = refl
 
 -- the code's test for a NaN, `x != x`
-pub ne-self : (x : Float) → ne x x ≡ isNan x
+pub nan-test : (x : Float) → isNan x ≡ ne x x
 unfolding ne isNan
-ne-self nan = refl
-ne-self (inf true) = refl
-ne-self (inf false) = refl
-ne-self (fin true m e) = ap not (level-self (m * up e * down e))
-ne-self (fin false m e) = ap not (level-self (m * up e * down e))
+nan-test nan = refl
+nan-test (inf true) = refl
+nan-test (inf false) = refl
+nan-test (fin true m e) = sym (ap not (level-self (m * up e * down e)))
+nan-test (fin false m e) = sym (ap not (level-self (m * up e * down e)))
 
 pub number-of : (x : Float) → ne x x ≡ false → T (number x)
-number-of x e = failed (sym (ne-self x) ∙ e)
+number-of x e = failed (nan-test x ∙ e)
 
 -- ---- so what compares is no NaN
 pub le-left : (x y : Float) → T (le x y) → T (number x)

@@ -4,7 +4,7 @@ use mathlib.Core.Bool.{Bool, not}
 use lib.Dec.{T}
 use lib.Ieee.{nan, binary64, isNan, toBits}
 use lib.Ieee.Compare.{differs-from-itself}
-use Rattle.number.specs.Order.{ne-self, number-of, passed}
+use Rattle.number.specs.Order.{nan-test}
 use Rattle.number.proofs.bits_of.Statement.{statement}
 use Rattle.number.proofs.bits_of.Tie as tie
 
@@ -16,7 +16,7 @@ returns : tie.Need-returns
 returns c = sym (ap (toBits binary64) (differs-from-itself (c .before .args .x) (subst T (sym (c .if1 .taken)) tt)) ∙ of-nan)
 
 float-to-bits-result : tie.Need-float-to-bits-result
-float-to-bits-result c = subst (λ (b : Bool). T (not b)) (sym (sym (ne-self (c .before .args .x)) ∙ c .if1 .left)) tt
+float-to-bits-result c = subst (λ (b : Bool). T (not b)) (sym (nan-test (c .before .args .x) ∙ c .if1 .left)) tt
 
 returns-2 : tie.Need-returns-2
 returns-2 c = refl

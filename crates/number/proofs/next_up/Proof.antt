@@ -6,7 +6,7 @@ use native.Mathlib.Omega.{arith}
 use borrow.Author.Needs.{needs}
 use lib.Dec.{T}
 use lib.Ieee.{Float, binary64, lt, eq, ne, isNan, neg, ofBits, toBits, nanBits}
-use Rattle.number.specs.Order.{naught, passed, failed, number-of, ne-self, above, number-neg}
+use Rattle.number.specs.Order.{naught, passed, failed, number-of, nan-test, above, number-neg}
 use Rattle.number.specs.Next.{nextUp, nextUp-nan, nextUp-at-zero, nextUp-positive, nextUp-negative, nextUp-inf, negative-bits, no-nan-bits, below-inf, is-inf}
 use Rattle.number.proofs.next_up.Statement.{statement}
 use Rattle.number.proofs.next_up.Tie as tie
@@ -16,7 +16,7 @@ unfolding isNan
 positive x n e l = above x naught (number-of x n) tt (failed l) (failed e)
 
 returns : tie.Need-returns
-returns c = let x = c .before .args .x in sym (nextUp-nan binary64 x (passed (sym (ne-self x) ∙ c .if1 .taken)))
+returns c = let x = c .before .args .x in sym (nextUp-nan binary64 x (passed (nan-test x ∙ c .if1 .taken)))
 
 float-from-bits-result : tie.Need-float-from-bits-result
 unfolding nanBits

@@ -1,0 +1,5 @@
+pub mod Halves
+pub mod Digits
+pub mod Powers
+pub mod Mantissa
+pub mod Range

@@ -1,0 +1,35 @@
+-- `maths::ln_at` meets its contract. Assumes nothing.
+use mathlib.Core.Path.{_≡_, refl, sym, ap, _∙_, subst}
+use lib.IntN.{pos}
+use lib.Ieee.{nanBits, ofBits, ofInt}
+use mir.Syntax.{w64}
+use mir.ValLaws.{toZ-ofZ}
+use borrow.Author.Needs.{needs}
+use Rattle.number.specs.Notation.{bits, whole}
+use Rattle.maths.specs.Ln.{lnAt}
+use Rattle.number.specs.Literals.{one-is, two-is}
+use Rattle.maths.proofs.ln_at.Statement.{statement}
+use Rattle.maths.proofs.ln_at.Tie as tie
+
+nearest-i64-to-f64-requires : tie.Need-nearest-i64-to-f64-requires
+nearest-i64-to-f64-requires c κs = search needs
+
+ln-sum-requires : tie.Need-ln-sum-requires
+ln-sum-requires c κs = search needs
+
+float-from-bits-result : tie.Need-float-from-bits-result
+unfolding nanBits
+float-from-bits-result c = tt
+
+float-from-bits-result-2 : tie.Need-float-from-bits-result-2
+unfolding nanBits
+float-from-bits-result-2 c = tt
+
+returns : tie.Need-returns
+unfolding lnAt
+returns c =
+    let e = toZ-ofZ w64 (c .before .before .args .e) (c .before .before .fits .e) in
+    cc (e, c .before .nearest-i64-to-f64 .ensures, c .ln-sum .ensures, one-is, two-is)
+
+pub ln-at-spec : {M : Type 1} → statement M
+ln-at-spec = tie.close (tie.spec nearest-i64-to-f64-requires ln-sum-requires float-from-bits-result float-from-bits-result-2 returns)

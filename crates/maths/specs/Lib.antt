@@ -1,0 +1,5 @@
+pub mod Series
+pub mod Exp
+pub mod Ln
+pub mod Trig
+pub mod Cplx

@@ -1,0 +1,154 @@
+//! The time of the port's calls as a ratio to the Rust's, on the same arguments in one run.
+//!
+//! Both sides take turns over the rounds. Each time is the median of the rounds, and the ratio is the median of the
+//! rounds' ratios, so that a disturbance of the machine in one round does not count.
+
+use reference::port;
+use reference::splitmix::SplitMix64;
+use reference::standins::{self, Complex64};
+use std::hint::black_box;
+use std::time::Instant;
+
+const ROUNDS: usize = 21;
+const CALLS: usize = 20_000;
+
+fn median(mut values: Vec<f64>) -> f64 {
+    values.sort_by(f64::total_cmp);
+    values[values.len() / 2]
+}
+
+/// Nanoseconds a call, of one pass.
+fn time(calls: usize, pass: &mut impl FnMut()) -> f64 {
+    let start = Instant::now();
+    pass();
+    start.elapsed().as_nanos() as f64 / calls as f64
+}
+
+/// Prints one line. Each closure makes `calls` calls in one pass.
+fn line(name: &str, calls: usize, mut rust: impl FnMut(), mut port: impl FnMut()) {
+    // One pass each to fill the caches.
+    rust();
+    port();
+    let (mut rust_times, mut port_times) = (Vec::new(), Vec::new());
+    for round in 0..ROUNDS {
+        // Who comes first changes too.
+        if round % 2 == 0 {
+            rust_times.push(time(calls, &mut rust));
+            port_times.push(time(calls, &mut port));
+        } else {
+            port_times.push(time(calls, &mut port));
+            rust_times.push(time(calls, &mut rust));
+        }
+    }
+    let ratios = rust_times.iter().zip(&port_times).map(|(r, p)| p / r);
+    let ratio = median(ratios.collect());
+    let (rust, port) = (median(rust_times), median(port_times));
+    println!("{name:<14} {rust:>10.2} {port:>10.2} {ratio:>7.3}");
+}
+
+/// A line for a function of one number.
+fn unary(name: &str, xs: &[f64], rust: impl Fn(f64) -> f64, port: impl Fn(f64) -> f64) {
+    let rust = || {
+        for &x in xs {
+            black_box(rust(x));
+        }
+    };
+    let port = || {
+        for &x in xs {
+            black_box(port(x));
+        }
+    };
+    line(name, xs.len(), rust, port);
+}
+
+/// A line for a function of two numbers.
+fn binary<T>(
+    name: &str,
+    xs: &[(f64, f64)],
+    rust: impl Fn(f64, f64) -> T,
+    port: impl Fn(f64, f64) -> T,
+) {
+    let rust = || {
+        for &(a, b) in xs {
+            black_box(rust(a, b));
+        }
+    };
+    let port = || {
+        for &(a, b) in xs {
+            black_box(port(a, b));
+        }
+    };
+    line(name, xs.len(), rust, port);
+}
+
+/// The small functions as calls: the port's are calls too, and the solver's own use of them may be woven into it.
+mod called {
+    use reference::standins;
+
+    #[inline(never)]
+    pub fn abs(x: f64) -> f64 {
+        x.abs()
+    }
+
+    #[inline(never)]
+    pub fn next_up(x: f64) -> f64 {
+        standins::next_up(x)
+    }
+
+    #[inline(never)]
+    pub fn next_down(x: f64) -> f64 {
+        standins::next_down(x)
+    }
+
+    #[inline(never)]
+    pub fn max(a: f64, b: f64) -> f64 {
+        standins::max(a, b)
+    }
+
+    #[inline(never)]
+    pub fn min(a: f64, b: f64) -> f64 {
+        standins::min(a, b)
+    }
+}
+
+fn main() {
+    let mut rng = SplitMix64::new(1);
+    let mut many = |lo: f64, hi: f64| -> Vec<f64> {
+        let draws = (0..CALLS).map(|_| rng.uniform(lo, hi));
+        draws.collect()
+    };
+    let wide = many(-700.0, 700.0);
+    let ordinary = many(-10.0, 10.0);
+    let positive = many(1e-3, 1e3);
+    let units = many(0.0, 1.0);
+    let other = many(-10.0, 10.0);
+    let pairs: Vec<(f64, f64)> = ordinary.iter().copied().zip(other).collect();
+    let subnormal: Vec<f64> = (0..CALLS).map(|_| rng.subnormal().abs()).collect();
+
+    println!(
+        "{:<14} {:>10} {:>10} {:>7}",
+        "call", "ns Rust", "ns port", "ratio"
+    );
+    unary("exp", &ordinary, standins::exp, port::exp);
+    unary("exp, wide", &wide, standins::exp, port::exp);
+    unary("ln", &positive, standins::ln, port::ln);
+    unary("ln, subnormal", &subnormal, standins::ln, port::ln);
+    unary("sin", &ordinary, standins::sin, port::sin);
+    unary("cos", &ordinary, standins::cos, port::cos);
+    unary("atan", &units, standins::atan, port::atan);
+    unary("abs", &ordinary, called::abs, port::abs);
+    unary("next_up", &ordinary, called::next_up, port::next_up);
+    unary("next_down", &ordinary, called::next_down, port::next_down);
+    binary("max", &pairs, called::max, port::max);
+    binary("min", &pairs, called::min, port::min);
+    let rust_exp = |re, im| {
+        let z = Complex64::new(re, im).exp();
+        (z.re, z.im)
+    };
+    let rust_ln = |re, im| {
+        let z = Complex64::new(re, im).ln();
+        (z.re, z.im)
+    };
+    binary("complex exp", &pairs, rust_exp, port::complex_exp);
+    binary("complex ln", &pairs, rust_ln, port::complex_ln);
+}
