@@ -231,9 +231,9 @@ pub fn read_file(file: &[u8]) -> Result<Problem, Refusal> {
 
 /// Reads records that are given without a file.
 pub fn read_records(nodes: &[u8], constraints: &[u8]) -> Result<Problem, Refusal> {
-    refuse_unless(nodes.len() % NODE == 0, 2)?;
+    refuse_unless(nodes.len().is_multiple_of(NODE), 2)?;
     refuse_unless(nodes.len() / NODE <= MAX_NODES, 2)?;
-    refuse_unless(constraints.len() % CONSTRAINT == 0, 2)?;
+    refuse_unless(constraints.len().is_multiple_of(CONSTRAINT), 2)?;
     refuse_unless(constraints.len() / CONSTRAINT <= MAX_CONSTRAINTS, 2)?;
     let trees = trees_of(nodes)?;
     let constraint = constraint_of(constraints, &trees)?;
@@ -246,7 +246,7 @@ pub fn read_records(nodes: &[u8], constraints: &[u8]) -> Result<Problem, Refusal
 
 /// Reads a list of nodes alone, as `Canonical` and the comparisons are given it.
 pub fn read_nodes(nodes: &[u8]) -> Result<Vec<EmlTree>, Refusal> {
-    refuse_unless(nodes.len() % NODE == 0, 2)?;
+    refuse_unless(nodes.len().is_multiple_of(NODE), 2)?;
     refuse_unless(nodes.len() / NODE <= MAX_NODES, 2)?;
     trees_of(nodes)
 }

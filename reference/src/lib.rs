@@ -8,6 +8,7 @@ pub mod canonical;
 pub mod compare;
 pub mod error;
 pub mod eval;
+pub mod generate;
 pub mod house;
 pub mod port;
 pub mod smt;

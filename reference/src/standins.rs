@@ -38,16 +38,10 @@ pub fn nearest(x: f64) -> f64 {
     if x.is_nan() || x.abs() >= 4_503_599_627_370_496.0 {
         return x;
     }
-    // The cast cuts the fraction off, and the integer has only one zero.
-    let whole = x as i64 as f64;
-    let rest = x - whole;
-    if rest >= 0.5 {
-        whole + 1.0
-    } else if rest <= -0.5 {
-        whole - 1.0
-    } else {
-        whole
-    }
+    // The cast cuts the fraction off; the rest is exact, and an integer has only one zero.
+    let whole = x as i64;
+    let rest = x - whole as f64;
+    (whole + i64::from(rest >= 0.5) - i64::from(rest <= -0.5)) as f64
 }
 
 /// e to the power x.
@@ -65,8 +59,10 @@ pub fn exp(x: f64) -> f64 {
     let k = nearest(x * INV_LN2);
     let r = (x - k * H) - k * L;
     let mut s = 1.0;
-    for d in (1..=14).rev() {
-        s = 1.0 + (r * s) / f64::from(d);
+    for d in [
+        14.0, 13.0, 12.0, 11.0, 10.0, 9.0, 8.0, 7.0, 6.0, 5.0, 4.0, 3.0, 2.0, 1.0,
+    ] {
+        s = 1.0 + (r * s) / d;
     }
     let k = k as i32;
     let a = k.div_euclid(2);
@@ -102,8 +98,8 @@ pub fn ln(x: f64) -> f64 {
     let f = (m - 1.0) / (m + 1.0);
     let w = f * f;
     let mut s = 1.0 / 23.0;
-    for j in (1..=21).rev().step_by(2) {
-        s = 1.0 / f64::from(j) + w * s;
+    for j in [21.0, 19.0, 17.0, 15.0, 13.0, 11.0, 9.0, 7.0, 5.0, 3.0, 1.0] {
+        s = 1.0 / j + w * s;
     }
     let e = f64::from(e);
     e * H + ((2.0 * f) * s + e * L)
@@ -123,8 +119,8 @@ fn reduce(b: f64) -> Option<(i64, f64)> {
 fn sine_part(r: f64) -> f64 {
     let w = r * r;
     let mut s = 1.0;
-    for d in (2..=16).rev().step_by(2) {
-        s = 1.0 - (w * s) / f64::from(d * (d + 1));
+    for d in [16.0, 14.0, 12.0, 10.0, 8.0, 6.0, 4.0, 2.0] {
+        s = 1.0 - (w * s) / (d * (d + 1.0));
     }
     r * s
 }
@@ -133,8 +129,8 @@ fn sine_part(r: f64) -> f64 {
 fn cosine_part(r: f64) -> f64 {
     let w = r * r;
     let mut c = 1.0;
-    for d in (2..=18).rev().step_by(2) {
-        c = 1.0 - (w * c) / f64::from((d - 1) * d);
+    for d in [18.0, 16.0, 14.0, 12.0, 10.0, 8.0, 6.0, 4.0, 2.0] {
+        c = 1.0 - (w * c) / ((d - 1.0) * d);
     }
     c
 }
@@ -173,8 +169,11 @@ pub fn atan(t: f64) -> f64 {
     };
     let w = u * u;
     let mut s = 1.0 / 43.0;
-    for j in (1..=41).rev().step_by(2) {
-        s = 1.0 / f64::from(j) - w * s;
+    for j in [
+        41.0, 39.0, 37.0, 35.0, 33.0, 31.0, 29.0, 27.0, 25.0, 23.0, 21.0, 19.0, 17.0, 15.0, 13.0,
+        11.0, 9.0, 7.0, 5.0, 3.0, 1.0,
+    ] {
+        s = 1.0 / j - w * s;
     }
     base + u * s
 }

@@ -3,3 +3,5 @@ pub mod Exp
 pub mod Ln
 pub mod Trig
 pub mod Cplx
+pub mod Computing
+pub mod Examples

@@ -11,3 +11,5 @@ pub mod Below
 pub mod Halving
 pub mod Pattern
 pub mod Next
+pub mod Computing
+pub mod Examples
