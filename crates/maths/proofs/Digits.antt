@@ -1,9 +1,9 @@
 -- The bit pattern of a finite value above zero, from its form n * 2 ^ d: a field, and n's digits moved up to 53. Assumes nothing.
-use mathlib.Core.Path.{_≡_, refl, ap, sym, _∙_, subst}
+use mathlib.Core.Path.{_≡_, ap, sym, _∙_, subst}
 use Prim.Native.Nat.{ℕ, zero, suc, _+_, _-_, _*_, _/_, _%_, _^_, _≤_, _<_}
 use native.Mathlib.Nat.{le-trans, le-of-eq, le-antisymm, lt-irrefl, lt-of-lt-of-le, lt-of-le-of-lt, lt-of-not-le, mul-assoc, mul-div-cancel, mul-le-mul-right, mul-lt-mul-of-pos-right, div-one, zero-add}
 use native.Mathlib.Omega.{arith}
-use mathlib.Core.Bool.{Bool, false, _&&_}
+use mathlib.Core.Bool.{false, _&&_}
 use lib.IntN.{ℤ}
 use lib.Dec.{T, ltb, leb, eqb, lt→ltb, le→leb}
 use lib.Pow.{pow-pos, pow-add, pow-mono}

@@ -1,20 +1,18 @@
 -- The split of a positive value in `ln`: its field and fraction give the mantissa and the exponent. Assumes nothing.
-use mathlib.Core.Path.{_≡_, refl, ap, sym, _∙_, subst}
+use mathlib.Core.Path.{_≡_, refl, ap, sym, _∙_}
 use mathlib.Core.Logic.{_⊎_, inl, inr}
 use Prim.Native.Nat.{ℕ, zero, suc, _+_, _-_, _*_, _/_, _%_, _^_, _≤_, _<_}
 use native.Mathlib.Nat.{le-refl, lt-irrefl, lt-of-lt-of-le, mul-assoc, mul-pos, mul-le-mul, mul-lt-mul-of-pos-right}
 use native.Mathlib.Omega.{arith}
-use mathlib.Core.Bool.{Bool, true, false, not, _&&_, cond}
+use mathlib.Core.Bool.{Bool, true, false, not, _&&_}
 use lib.IntN.{ℤ, pos, negsuc, negℤ, _+ℤ_, _-ℤ_}
 use lib.Dec.{T, lit<, lit≤, ltb, leb, eqb, ltb→lt, nltb→le, eqb→eq}
 use lib.Pow.{pow-pos, pow-add, pow-mono}
 use lib.Count.{leadingZeros, leading-top}
 use borrow.Author.Tests.{lt-ltb, le-ltb, le-leb, lt-leb}
-use lib.Ieee.{Float, nan, inf, fin, binary64, up, down, minus, size, ofBits, toBits, fits, le, lt}
-use lib.Ieee.Digits.{size-lt, size-reaches}
+use lib.Ieee.{Float, nan, inf, fin, binary64, up, down, minus, size, ofBits, toBits, fits, lt}
 use lib.Ieee.Fits.{and-l}
 use lib.Ieee.Positive.{positive}
-use Rattle.number.specs.Signed.{⊑→le, ⊏→lt}
 use Rattle.number.specs.Round.{fits-parts, exponent-at}
 use Rattle.number.specs.Pattern.{pattern}
 use Rattle.maths.specs.Ln.{mantissa, exponent}

@@ -1,18 +1,18 @@
 -- 2^a by its bit pattern: the field is a + 1023. Assumes nothing.
 use mathlib.Core.Path.{_≡_, refl, ap, sym, _∙_, subst}
-use Prim.Native.Nat.{ℕ, suc, _+_, _-_, _*_, _/_, _%_, _^_, _≤_, _<_}
+use Prim.Native.Nat.{ℕ, suc, _+_, _-_, _*_, _%_, _^_, _<_}
 use native.Mathlib.Nat.{one-mul, mul-one, mul-le-mul, lt-of-lt-of-le}
 use native.Mathlib.Omega.{arith}
-use mathlib.Core.Bool.{Bool, true, false, not, cond}
+use mathlib.Core.Bool.{false, not}
 use lib.IntN.{ℤ, pos, negsuc, natAbs, _+ℤ_}
 use lib.Signed.{mag, nonNeg}
-use lib.Dec.{T, lit<, lit≤, ltb, leb}
+use lib.Dec.{T, lit<, lit≤}
 use lib.Pow.{pow-lt, pow-mono, pow-pos}
 use borrow.Author.Tests.{le-ltb, le-leb, lt-leb}
 use mir.Syntax.{w64}
 use mir.Val.{Fits, SFits}
 use mir.ValLaws.{toZ-ofZ}
-use lib.Ieee.{fin, binary64, up, down, minus, size, ofBits, toBits, nanBits, fits}
+use lib.Ieee.{fin, binary64, up, minus, size, ofBits, toBits, nanBits, fits}
 use Rattle.number.specs.Cast.{again}
 use Rattle.number.specs.Next.{no-nan-below}
 use Rattle.maths.proofs.Digits.{digits, normal, fits-i, read-back}

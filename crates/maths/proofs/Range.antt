@@ -1,19 +1,15 @@
 -- The range of x in `exp`, and of its k. Assumes nothing.
-use mathlib.Core.Path.{_≡_, refl, ap, sym, _∙_, subst}
-use Prim.Native.Nat.{ℕ, zero, suc, _+_, _-_, _*_, _/_, _^_, _≤_, _<_}
-use native.Mathlib.Nat.{mul-pos, mul-le-mul-right, le-trans, le-of-eq, le-of-lt, lt-of-le-of-lt, mul-right-comm, mul-assoc, mul-comm, mul-left-comm, div-lt-iff-lt-mul, add-mul, one-mul}
+use mathlib.Core.Path.{_≡_, refl, sym, subst}
+use Prim.Native.Nat.{ℕ, _+_, _*_, _^_, _≤_, _<_}
+use native.Mathlib.Nat.{mul-pos, mul-le-mul-right}
 use native.Mathlib.Omega.{arith}
-use mathlib.Core.Bool.{Bool, true, false, not, _||_, cond, true≢false}
-use lib.IntN.{ℤ, pos, negsuc, negℤ}
-use lib.Signed.{mag}
-use lib.Dec.{T, lit<, lit≤, ltb, ltb→lt, lt→ltb}
+use mathlib.Core.Bool.{Bool, true, false, not, _||_, true≢false}
+use lib.IntN.{ℤ}
+use lib.Dec.{T, lit<, lit≤, ltb→lt, lt→ltb}
 use borrow.Author.Tests.{ltb-false}
-use mir.Syntax.{w64}
-use mir.Val.{SFits}
-use mir.ValLaws.{toZ-ofZ}
 use lib.Ieee.{Float, nan, inf, fin, binary64, up, down, round, mul, le, lt, neg, isNan, ofBits}
 use lib.Ieee.Fits.{down-pos}
-use Rattle.number.specs.Near.{nearest, below, halfUp}
+use Rattle.number.specs.Near.{below}
 use Rattle.number.specs.Sign.{absOf}
 use Rattle.number.specs.Below.{round-below}
 

@@ -7,7 +7,7 @@ use Rattle.number.specs.Notation.{bits, whole, integer, +∞, -∞}
 use Rattle.maths.specs.Exp.{expOf}
 use Rattle.maths.specs.Ln.{lnOf}
 use Rattle.maths.specs.Trig.{sinOf, cosOf, atanOf}
-use Rattle.maths.specs.Cplx.{complexExp, complexLn}
+use Rattle.maths.specs.Cplx.{complexLn}
 use Rattle.maths.specs.Computing.{computing}
 
 abbrev shown : Float → ℕ

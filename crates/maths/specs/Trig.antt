@@ -1,6 +1,5 @@
 -- sin, cos and atan of document 01, "Stand-ins for library mathematics": each operation rounded once, in the order shown.
 use Prim.Native.Nat.{ℕ, _+_, _-_, _*_, _%_, _^_}
-use mathlib.Core.Bool.{Bool, _||_}
 use lib.Dec.{eqb}
 use lib.IntN.{ℤ, pos, negsuc}
 use lib.Ieee.{Float, nan, isNan, neg}

@@ -6,7 +6,7 @@ ghost use lib.Dec.{T};
 ghost use lib.Signed.{mag};
 ghost use lib.Ieee.{binary64, ofBits};
 ghost use lib.Ieee.Positive.{positive};
-ghost use Rattle.number.specs.Notation.{_⊗_, whole};
+ghost use Rattle.number.specs.Notation.{whole};
 ghost use Rattle.number.specs.Near.{below};
 ghost use Rattle.maths.specs.Series.{series};
 ghost use Rattle.maths.specs.Exp.{two^, expSum, scaled, expOf};

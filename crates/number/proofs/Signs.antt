@@ -1,14 +1,14 @@
 -- The sign of a value: |x| by two tests, and the sign's bit by the pattern. Assumes nothing.
-use mathlib.Core.Path.{_≡_, refl, sym, ap, _∙_, subst}
-use Prim.Native.Nat.{ℕ, zero, suc, _+_, _-_, _*_, _/_, _^_, _≤_, _<_}
-use native.Mathlib.Nat.{mul-pos, zero-mul, zero-lt-suc, zero-add, add-assoc, two-pow-succ, mul-one, one-mul}
+use mathlib.Core.Path.{_≡_, refl, sym, ap, _∙_}
+use Prim.Native.Nat.{ℕ, zero, suc, _+_, _*_, _^_, _<_}
+use native.Mathlib.Nat.{mul-pos, zero-mul, zero-lt-suc, two-pow-succ, mul-one, one-mul}
 use native.Mathlib.Omega.{arith}
-use mathlib.Core.Bool.{Bool, true, false, not, _&&_, _||_, cond, true≢false}
-use lib.Dec.{T, ltb, leb, eqb, eqb→eq}
+use mathlib.Core.Bool.{Bool, true, false, _&&_, true≢false}
+use lib.Dec.{T, leb, eqb→eq}
 use lib.IntN.{ℤ, pos, negsuc}
 use borrow.Author.Tests.{ltb-false, ltb-true, eqb-true, le-leb, lt-leb}
-use lib.Ieee.{Float, nan, inf, fin, binary64, up, down, level, lt, eq, neg, isNan, fits, size, toBits, ofBits}
-use lib.Ieee.Fits.{up-pos, down-pos}
+use lib.Ieee.{Float, nan, inf, fin, binary64, up, down, level, lt, eq, neg, isNan, fits, toBits, ofBits}
+use lib.Ieee.Fits.{up-pos}
 use lib.Ieee.Bits.{toBits-lt}
 use Rattle.number.specs.Sign.{absOf, signBit}
 

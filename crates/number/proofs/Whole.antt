@@ -1,12 +1,12 @@
 -- `nearest` of the code: half of what is next to the whole part of the double. Assumes nothing.
 use mathlib.Core.Path.{_≡_, refl, ap, sym, _∙_, subst}
-use Prim.Native.Nat.{ℕ, zero, suc, _+_, _-_, _*_, _/_, _^_, _≤_, _<_, min}
+use Prim.Native.Nat.{ℕ, zero, suc, _+_, _-_, _*_, _/_, _^_, _<_, min}
 use native.Mathlib.Nat.{lt-of-lt-of-le, lt-of-le-of-lt, mul-one, mul-comm, div-lt-iff-lt-mul, mul-le-mul-right, div-div-eq-div-mul, add-div-right}
 use native.Mathlib.Omega.{arith}
-use mathlib.Core.Bool.{Bool, true, false, _||_, cond, true≢false, false≢true}
+use mathlib.Core.Bool.{Bool, true, false, cond, true≢false, false≢true}
 use lib.IntN.{ℤ, pos, negℤ, _+ℤ_, _-ℤ_}
 use lib.Signed.{ltZ, quotZ}
-use lib.Dec.{T, lit<, lit≤, ltb, ltb→lt, lt→ltb}
+use lib.Dec.{T, lit<, lit≤, ltb→lt}
 use borrow.Author.Tests.{ltb-true}
 use lib.Ieee.{Float, nan, inf, fin, binary64, up, down, round, mul, le, lt, toSigned, fits, ofBits}
 use lib.Ieee.Fits.{down-pos}

@@ -3,7 +3,7 @@ use mathlib.Core.Path.{_≡_, refl}
 use mathlib.Core.Bool.{true, false}
 use lib.IntN.{pos, negsuc}
 use lib.Ieee.{Float, nan, fin, binary64}
-use Rattle.number.specs.Notation.{bits, whole, integer, +∞}
+use Rattle.number.specs.Notation.{bits, whole, +∞}
 use Rattle.number.specs.Near.{nearest}
 use Rattle.number.specs.MaxMin.{maxOf, minOf}
 use Rattle.number.specs.Next.{nextUp, nextDown}

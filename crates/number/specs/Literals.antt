@@ -1,6 +1,6 @@
 -- Numbers as the code's literals have them, by their bits, and as the definitions do. Assumes nothing.
 use mathlib.Core.Path.{_≡_, refl}
-use lib.Ieee.{nan, inf, binary64, div, neg, ofBits, ofInt}
+use lib.Ieee.{nan, binary64, div, neg, ofBits, ofInt}
 use Rattle.number.specs.Notation.{bits, whole, +∞, -∞}
 
 pub zero-is : whole 0 ≡ bits 0

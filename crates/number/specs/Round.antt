@@ -3,7 +3,7 @@
 use mathlib.Core.Path.{_≡_, refl, sym, ap, _∙_, ap₂, subst}
 use mathlib.Core.Logic.{_⊎_, inl, inr}
 use Prim.Native.Nat.{ℕ, zero, suc, _+_, _-_, _*_, _^_, _%_, _≤_, _<_, zero-le}
-use native.Mathlib.Nat.{mul-pos, mul-one, mul-comm, add-mul, sub-add-cancel, zero-mul, le-of-eq, eq-of-mul-eq-mul-right, one-mul, le-of-suc-le-suc, lt-of-not-le, not-le-of-lt, mul-le-mul-right, lt-of-lt-of-le, mul-lt-mul-of-pos-right, lt-of-mul-lt-mul-right}
+use native.Mathlib.Nat.{mul-pos, mul-comm, add-mul, sub-add-cancel, zero-mul, le-of-eq, eq-of-mul-eq-mul-right, one-mul, le-of-suc-le-suc, lt-of-not-le, not-le-of-lt, mul-le-mul-right, lt-of-lt-of-le, mul-lt-mul-of-pos-right, lt-of-mul-lt-mul-right}
 use native.Mathlib.Omega.{arith}
 use mathlib.Core.Bool.{Bool, true, false, not, _&&_, cond, true≢false, false≢true}
 use lib.Dec.{T, ltb, leb, eqb, ltb→lt, leb→le, nltb→le, eqb→eq}

@@ -1,10 +1,9 @@
 -- `maths::angle_of` meets its contract. Assumes nothing.
-use mathlib.Core.Path.{_≡_, refl, sym, ap, _∙_}
+use mathlib.Core.Path.{_≡_, sym, ap, _∙_}
 use mathlib.Core.Logic.{⊎-elim}
 use lib.Ieee.{neg, nanBits}
 use borrow.Author.Needs.{needs}
 use Rattle.number.specs.Notation.{if_then_else_, bits, whole, _⊖_, _≺_}
-use Rattle.number.specs.Sign.{signBit}
 use Rattle.maths.specs.Cplx.{angle}
 use Rattle.number.specs.Literals.{zero-is}
 use Rattle.maths.proofs.angle_of.Statement.{statement}

@@ -1,5 +1,4 @@
 -- `maths::atan` meets its contract. Assumes nothing.
-use mathlib.Core.Path.{_≡_, refl, sym, ap, _∙_, subst}
 use borrow.Author.Needs.{needs}
 use lib.Ieee.{nanBits}
 use Rattle.number.specs.Notation.{if_then_else_}

@@ -1,10 +1,7 @@
 -- `maths::complex_ln` meets its contract. Assumes nothing.
-use mathlib.Core.Path.{_≡_, refl, sym, ap, _∙_, subst}
+use mathlib.Core.Path.{sym, _∙_}
 use borrow.Author.Needs.{needs}
-use mathlib.Core.Bool.{Bool, true, false}
-use lib.Ieee.{nanBits, le}
-use Rattle.number.specs.Sign.{absOf}
-use Rattle.number.specs.Sign.{signBit}
+use lib.Ieee.{nanBits}
 use Rattle.number.specs.Notation.{if_then_else_}
 use Rattle.maths.specs.Cplx.{complexLn, realLn, otherLn}
 use Rattle.number.specs.Literals.{zero-is}

@@ -1,11 +1,10 @@
 -- `maths::cos` meets its contract. Assumes nothing.
 use mathlib.Core.Path.{_≡_, refl, sym, ap, _∙_, subst}
 use borrow.Author.Needs.{needs}
-use mathlib.Core.Bool.{Bool, false}
+use mathlib.Core.Bool.{false}
 use Prim.Native.Nat.{_^_}
 use lib.Dec.{T}
-use lib.IntN.{pos}
-use lib.Ieee.{binary64, isNan, lt, ofBits, ofInt}
+use lib.Ieee.{isNan, lt, ofBits, ofInt}
 use lib.Ieee.Compare.{differs-from-itself}
 use mir.Syntax.{w64}
 use mir.ValLaws.{toZ-ofZ}

@@ -1,8 +1,6 @@
 -- `maths::cos_by` meets its contract. Assumes nothing.
-use mathlib.Core.Path.{_≡_, refl, sym, ap, _∙_, subst}
 use borrow.Author.Needs.{needs}
 use borrow.Author.Tests.{eq-eqb, ne-eqb}
-use lib.Ieee.{neg}
 use Rattle.number.specs.Notation.{if_then_else_}
 use Rattle.maths.specs.Trig.{cosBy}
 use Rattle.maths.proofs.cos_by.Statement.{statement}

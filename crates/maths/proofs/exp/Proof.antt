@@ -1,19 +1,19 @@
 -- `maths::exp` meets its contract. Assumes nothing.
-use mathlib.Core.Path.{_≡_, refl, sym, ap, _∙_, subst}
-use mathlib.Core.Bool.{Bool, true, false}
+use mathlib.Core.Path.{_≡_, refl, sym, _∙_, subst}
+use mathlib.Core.Bool.{false}
 use Prim.Native.Nat.{_<_, _^_, _+_}
 use native.Mathlib.Omega.{arith}
 use lib.Dec.{T, lit≤}
-use lib.IntN.{ℤ, pos, negsuc}
+use lib.IntN.{negsuc}
 use lib.Signed.{mag}
-use lib.Ieee.{Float, inf, binary64, isNan, div, mul, neg, nanBits, ofBits, ofInt}
+use lib.Ieee.{binary64, isNan, mul, neg, nanBits, ofBits, ofInt}
 use lib.Ieee.Compare.{differs-from-itself}
 use mir.Syntax.{w64}
 use mir.ValLaws.{toZ-ofZ}
 use borrow.Author.Needs.{needs}
 use Rattle.number.specs.Near.{nearest, below}
-use Rattle.number.specs.Notation.{if_then_else_, whole, integer, bits, _⊖_, _⊗_}
-use Rattle.maths.specs.Exp.{expOf, expAt, expSum, scaled, H, L}
+use Rattle.number.specs.Notation.{if_then_else_, whole, integer, bits}
+use Rattle.maths.specs.Exp.{expOf, expAt}
 use Rattle.number.specs.Order.{nan-test}
 use Rattle.number.specs.Literals.{zero-is, infinite}
 use Rattle.number.specs.Cast.{again}

@@ -1,6 +1,6 @@
 -- `maths::exp_sum` meets its contract: what is left of the series does not change. Assumes nothing.
 use Prim.Native.Nat.{_≤_}
-use mathlib.Core.Path.{_≡_, refl, _∙_}
+use mathlib.Core.Path.{_≡_, _∙_}
 use native.Mathlib.Omega.{arith}
 use Rattle.number.specs.Literals.{one-is}
 use Rattle.maths.specs.Series.{series, one-less, none-left}

@@ -1,6 +1,6 @@
 -- `maths::ln` meets its contract. Assumes nothing.
 use mathlib.Core.Path.{_≡_, refl, sym, ap, _∙_, subst}
-use mathlib.Core.Bool.{Bool, true, false, not, _&&_, _||_, cond, true≢false}
+use mathlib.Core.Bool.{Bool, true, false, cond, true≢false}
 use Prim.Native.Nat.{ℕ, zero, suc, _+_, _-_, _*_, _^_, _<_}
 use native.Mathlib.Nat.{mul-pos, zero-mul, zero-lt-suc}
 use native.Mathlib.Omega.{arith}
@@ -9,15 +9,15 @@ use borrow.Author.Tests.{ltb-false}
 use lib.Ieee.Fits.{up-pos}
 use lib.IntN.{ℤ, pos, negsuc, _+ℤ_}
 use lib.Signed.{mag}
-use lib.Ieee.{Float, nan, inf, fin, binary64, up, down, isNan, level, lt, eq, div, neg, nanBits, ofBits, ofInt}
+use lib.Ieee.{Float, nan, inf, fin, up, down, isNan, level, lt, eq, nanBits, ofBits}
 use lib.Ieee.Compare.{differs-from-itself}
 use lib.Ieee.Positive.{positive}
 use mir.Syntax.{w64}
 use mir.Val.{SFits}
 use mir.ValLaws.{toZ-ofZ}
 use borrow.Author.Needs.{needs}
-use Rattle.number.specs.Notation.{if_then_else_, whole, bits}
-use Rattle.maths.specs.Ln.{lnOf, lnFrom, mantissa, exponent}
+use Rattle.number.specs.Notation.{if_then_else_, bits}
+use Rattle.maths.specs.Ln.{lnOf, lnFrom}
 use Rattle.number.specs.Literals.{zero-is, two-is, infinite, minus-infinite, undefined}
 use Rattle.number.specs.Order.{nan-test}
 use Rattle.number.specs.Cast.{again}

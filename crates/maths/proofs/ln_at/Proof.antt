@@ -1,11 +1,8 @@
 -- `maths::ln_at` meets its contract. Assumes nothing.
-use mathlib.Core.Path.{_≡_, refl, sym, ap, _∙_, subst}
-use lib.IntN.{pos}
-use lib.Ieee.{nanBits, ofBits, ofInt}
+use lib.Ieee.{nanBits}
 use mir.Syntax.{w64}
 use mir.ValLaws.{toZ-ofZ}
 use borrow.Author.Needs.{needs}
-use Rattle.number.specs.Notation.{bits, whole}
 use Rattle.maths.specs.Ln.{lnAt}
 use Rattle.number.specs.Literals.{one-is, two-is}
 use Rattle.maths.proofs.ln_at.Statement.{statement}

@@ -1,5 +1,4 @@
 -- `maths::log_size` meets its contract. Assumes nothing.
-use mathlib.Core.Path.{_≡_}
 use borrow.Author.Needs.{needs}
 use Rattle.maths.specs.Cplx.{logSize}
 use Rattle.number.specs.Literals.{one-is}

@@ -1,8 +1,5 @@
 -- `maths::scale` meets its contract. Assumes nothing.
-use mathlib.Core.Path.{_≡_, ap, _∙_, sym}
-use lib.IntN.{ℤ}
-use lib.Ieee.{Float}
-use Rattle.number.specs.Notation.{_⊗_}
+use mathlib.Core.Path.{ap, _∙_}
 use Rattle.maths.specs.Exp.{scaled, two^}
 use Rattle.maths.proofs.Halves.{a-is, a-small, rest-fits, rest-is, rest-ok}
 use Rattle.maths.proofs.scale.Statement.{statement}

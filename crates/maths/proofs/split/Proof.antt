@@ -1,9 +1,9 @@
 -- `maths::split` meets its contract: the field and the fraction of x's bits are what `High` and `Low` of `proofs/Mantissa.antt` say. Assumes nothing.
-use mathlib.Core.Path.{_≡_, refl, sym, ap, _∙_, subst}
+use mathlib.Core.Path.{_≡_, sym, ap, _∙_, subst}
 use mathlib.Core.Bool.{Bool, true, false, not, cond}
-use Prim.Native.Nat.{ℕ, zero, suc, _+_, _-_, _*_, _/_, _%_, _^_, _≤_, _<_}
+use Prim.Native.Nat.{ℕ, zero, suc, _+_, _-_, _/_, _%_, _^_, _≤_, _<_}
 use native.Mathlib.Omega.{arith}
-use lib.Dec.{T, ltb, ltb→lt, nltb→le}
+use lib.Dec.{T, ltb}
 use lib.IntN.{ℤ, pos, negsuc, _-ℤ_}
 use lib.Signed.{mag}
 use lib.Bits.{bitAnd, and-mask}
@@ -12,10 +12,8 @@ use lib.Ieee.{Float, nan, inf, fin, binary64, isNan, fits, toBits, ofBits}
 use lib.Ieee.Bits.{toBits-lt}
 use lib.Ieee.Positive.{positive}
 use mir.Syntax.{w64}
-use mir.Val.{Fits, SFits, toZ, ofZ}
+use mir.Val.{SFits, toZ}
 use mir.ValLaws.{toZ-ofZ}
-use Rattle.maths.specs.Ln.{mantissa, exponent}
-use Rattle.number.specs.Cast.{again}
 use Rattle.maths.proofs.Mantissa.{High, Low, high-case, low-case}
 use Rattle.maths.proofs.split.Statement.{statement}
 use Rattle.maths.proofs.split.Tie as tie

@@ -1,14 +1,12 @@
 -- `maths::turns_of` meets its contract. Assumes nothing.
-use mathlib.Core.Path.{_≡_, sym, _∙_, subst}
+use mathlib.Core.Path.{_∙_}
 use Prim.Native.Nat.{_+_, _^_, _<_}
 use native.Mathlib.Omega.{arith}
 use lib.Dec.{T, lit≤}
-use lib.IntN.{ℤ}
 use lib.Signed.{mag}
 use lib.Ieee.{binary64, mul, ofBits, nanBits}
 use mir.Syntax.{w64}
 use mir.ValLaws.{toZ-ofZ}
-use borrow.Author.Needs.{needs}
 use Rattle.number.specs.Near.{nearest, below}
 use Rattle.maths.specs.Trig.{turns}
 use Rattle.number.specs.Below.{wider, nearest-small}

@@ -1,7 +1,7 @@
 -- `number::abs` meets its contract. Assumes nothing.
-use mathlib.Core.Path.{_≡_, refl, sym, ap, _∙_, subst}
+use mathlib.Core.Path.{sym, subst}
 use lib.Dec.{T}
-use lib.Ieee.{Float, binary64, fits}
+use lib.Ieee.{binary64, fits}
 use Rattle.number.proofs.Signs.{abs-zero, abs-neg, abs-pos}
 use Rattle.number.proofs.abs.Statement.{statement}
 use Rattle.number.proofs.abs.Tie as tie

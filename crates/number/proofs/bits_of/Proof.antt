@@ -2,7 +2,7 @@
 use mathlib.Core.Path.{_≡_, refl, sym, ap, _∙_, subst}
 use mathlib.Core.Bool.{Bool, not}
 use lib.Dec.{T}
-use lib.Ieee.{nan, binary64, isNan, toBits}
+use lib.Ieee.{nan, binary64, toBits}
 use lib.Ieee.Compare.{differs-from-itself}
 use Rattle.number.specs.Order.{nan-test}
 use Rattle.number.proofs.bits_of.Statement.{statement}

@@ -1,7 +1,7 @@
 -- `number::nearest` meets its contract. Assumes nothing.
 use mathlib.Core.Path.{sym, subst}
 use lib.Dec.{T, lit<}
-use lib.Ieee.{Float, binary64, fits, mul, ofBits}
+use lib.Ieee.{binary64, mul, ofBits}
 use Rattle.number.proofs.Whole.{Doubled, doubled, in-range, sub-ok, div-ok, down-is, add-ok, div-ok', up-is}
 use Rattle.number.proofs.nearest.Statement.{statement}
 use Rattle.number.proofs.nearest.Tie as tie

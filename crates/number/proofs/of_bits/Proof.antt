@@ -1,10 +1,9 @@
 -- `number::of_bits` meets its contract: what the test leaves is no NaN's pattern, and every NaN's is read as `nan`. Assumes nothing.
-use mathlib.Core.Path.{_≡_, refl, sym, ap, _∙_, subst}
-use mathlib.Core.Bool.{Bool, true, false, not, true≢false}
-use Prim.Native.Nat.{ℕ, _%_, _<_, _≤_}
-use lib.Dec.{T, ltb}
+use mathlib.Core.Path.{_≡_, refl, sym, _∙_}
+use mathlib.Core.Bool.{true, true≢false}
+use Prim.Native.Nat.{ℕ, _%_}
 use lib.Bits.{bitAnd, and-mask}
-use lib.Ieee.{Float, nan, inf, fin, binary64, isNan, nanBits, ofBits, toBits}
+use lib.Ieee.{Float, nan, inf, fin, binary64, isNan, ofBits, toBits}
 use lib.Ieee.Bits.{nanBits-is, nanBits-above}
 use borrow.Author.Tests.{lt-ltb}
 use Rattle.number.specs.Literals.{undefined}

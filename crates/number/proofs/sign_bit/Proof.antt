@@ -1,8 +1,7 @@
 -- `number::sign_bit` meets its contract. Assumes nothing.
-use mathlib.Core.Path.{_≡_, refl, sym, ap, _∙_, subst}
+use mathlib.Core.Path.{sym, ap, _∙_, subst}
 use mathlib.Core.Bool.{Bool, not}
 use lib.Dec.{T}
-use lib.Ieee.{Float, nan, binary64, fits, isNan}
 use lib.Ieee.Compare.{differs-from-itself}
 use Rattle.number.specs.Sign.{signBit}
 use Rattle.number.specs.Order.{nan-test}
