@@ -3,7 +3,7 @@ use Prim.Native.Nat.{ℕ, _+_, _-_, _*_, _%_, _^_}
 use lib.Dec.{eqb}
 use lib.IntN.{ℤ, pos, negsuc}
 use lib.Ieee.{Float, nan, isNan, neg}
-use Rattle.number.specs.Notation.{if_then_else_, _⊕_, _⊖_, _⊗_, _⊘_, _≺_, bits, whole, integer}
+use Rattle.number.specs.Notation.{if_then_else_, _⊕_, _⊖_, _⊗_, _⊘_, _≺_, bits, whole, integer, decimal}
 use Rattle.number.specs.Sign.{absOf}
 use Rattle.number.specs.Near.{nearest}
 use Rattle.maths.specs.Series.{series}
@@ -64,6 +64,6 @@ atanSum w = series (atanStep w) 21 (whole 1 ⊘ whole 43)
 unfoldable pub atanAt : Float → Float → Float
 atanAt base u = base ⊕ u ⊗ atanSum (u ⊗ u)
 
--- if t > 0.4142, u = (t-1)/(t+1), base 3FE921FB54442D18; else u = t, base 0. The f64 nearest to 0.4142 is 3FDA8240B780346E.
+-- if t > 0.4142, u = (t-1)/(t+1), base 3FE921FB54442D18; else u = t, base 0
 unfoldable pub atanOf : Float → Float
-atanOf t = if bits 0x3FDA8240B780346E ≺ t then atanAt (bits 0x3FE921FB54442D18) ((t ⊖ whole 1) ⊘ (t ⊕ whole 1)) else atanAt (whole 0) t
+atanOf t = if decimal 4142 10000 ≺ t then atanAt (bits 0x3FE921FB54442D18) ((t ⊖ whole 1) ⊘ (t ⊕ whole 1)) else atanAt (whole 0) t

@@ -2,7 +2,7 @@
 use Prim.Native.Nat.{ℕ}
 use mathlib.Core.Bool.{Bool, true, false}
 use lib.IntN.{ℤ, pos}
-use lib.Ieee.{Float, inf, binary64, add, sub, mul, div, lt, le, ofInt, ofBits}
+use lib.Ieee.{Float, inf, binary64, add, sub, mul, div, lt, le, round, ofInt, ofBits}
 
 infix 10 if_then_else_
 infixl 65 _⊕_
@@ -36,7 +36,7 @@ x ≺ y = lt x y
 abbrev pub _≼_ : Float → Float → Bool
 x ≼ y = le x y
 
--- an f64 by its bits; a whole number; an integer
+-- an f64 by its bits; a whole number; an integer; a decimal, which is the f64 nearest to n / d
 abbrev pub bits : ℕ → Float
 bits b = ofBits binary64 b
 
@@ -45,6 +45,9 @@ whole n = ofInt binary64 (pos n)
 
 abbrev pub integer : ℤ → Float
 integer z = ofInt binary64 z
+
+abbrev pub decimal : ℕ → ℕ → Float
+decimal n d = round binary64 false n d
 
 abbrev pub +∞ : Float
 +∞ = inf false
