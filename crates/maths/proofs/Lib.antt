@@ -3,3 +3,4 @@ pub mod Digits
 pub mod Powers
 pub mod Mantissa
 pub mod Range
+pub mod Quarters

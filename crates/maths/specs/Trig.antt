@@ -6,6 +6,7 @@ use lib.Ieee.{Float, nan, isNan, neg}
 use Rattle.number.specs.Notation.{if_then_else_, _⊕_, _⊖_, _⊗_, _⊘_, _≺_, bits, whole, integer, decimal}
 use Rattle.number.specs.Sign.{absOf}
 use Rattle.number.specs.Near.{nearest}
+use Rattle.maths.specs.declared.Turn.{Turn}
 use Rattle.maths.specs.Series.{series}
 
 -- ---- sin and cos
@@ -37,6 +38,10 @@ abbrev pub quarter : ℤ → ℕ
 quarter (pos k) = k % 4
 quarter (negsuc k) = 3 - k % 4
 
+-- NaN or |b| > 2^20 is too far
+unfoldable pub turnOf : Float → Turn
+turnOf b = if isNan b then Turn.Far else if whole (2 ^ 20) ≺ absOf b then Turn.Far else Turn.By (quarter (turns b)) (rest b (turns b))
+
 -- by n mod 4: sin is s, C, -s, -C; cos is C, -s, -C, s
 unfoldable pub sinBy : ℕ → Float → Float
 sinBy q r = if eqb q 0 then sinAt r else if eqb q 1 then cosAt r else if eqb q 2 then neg (sinAt r) else neg (cosAt r)
@@ -44,12 +49,16 @@ sinBy q r = if eqb q 0 then sinAt r else if eqb q 1 then cosAt r else if eqb q 2
 unfoldable pub cosBy : ℕ → Float → Float
 cosBy q r = if eqb q 0 then cosAt r else if eqb q 1 then neg (sinAt r) else if eqb q 2 then neg (cosAt r) else sinAt r
 
--- NaN or |b| > 2^20 gives NaN
+-- what is too far gives NaN
+abbrev pub turned : (ℕ → Float → Float) → Turn → Float
+turned by Turn.Far = nan
+turned by (Turn.By q r) = by q r
+
 unfoldable pub sinOf : Float → Float
-sinOf b = if isNan b then nan else if whole (2 ^ 20) ≺ absOf b then nan else sinBy (quarter (turns b)) (rest b (turns b))
+sinOf b = turned sinBy (turnOf b)
 
 unfoldable pub cosOf : Float → Float
-cosOf b = if isNan b then nan else if whole (2 ^ 20) ≺ absOf b then nan else cosBy (quarter (turns b)) (rest b (turns b))
+cosOf b = turned cosBy (turnOf b)
 
 -- ---- atan
 

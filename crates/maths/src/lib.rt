@@ -11,7 +11,7 @@ ghost use Rattle.number.specs.Near.{below};
 ghost use Rattle.maths.specs.Series.{series};
 ghost use Rattle.maths.specs.Exp.{two^, expSum, scaled, expOf};
 ghost use Rattle.maths.specs.Ln.{lnSum, lnAt, mantissa, exponent, lnOf};
-ghost use Rattle.maths.specs.Trig.{turns, rest, quarter, sinStep, cosStep, sinAt, cosAt, sinBy, cosBy, sinOf, cosOf, atanSum, atanAt, atanOf};
+ghost use Rattle.maths.specs.Trig.{turns, rest, quarter, sinStep, cosStep, sinAt, cosAt, turnOf, sinBy, sinOf, cosOf, atanSum, atanAt, atanOf};
 ghost use Rattle.maths.specs.Cplx.{complexExp, logSize, angle, complexLn};
 
 // 2^a
@@ -205,6 +205,25 @@ fn quarter_of(n: i64) -> u64
     ((n + 4194304) as u64) % 4
 }
 
+// What sin and cos need of an angle: its quarter turn and the rest, unless it is too far.
+pub enum Turn {
+    Far,
+    By(u64, f64),
+}
+
+fn turn_of(b: f64) -> Turn
+    ensures { λ r. ⌜ r ≡ turnOf b ⌝ }
+{
+    if b != b {
+        return Turn::Far;
+    }
+    if number::abs(b) > 1048576.0 {
+        return Turn::Far;
+    }
+    let n = turns_of(b);
+    Turn::By(quarter_of(n), rest_of(b, n))
+}
+
 fn sin_by(q: u64, r: f64) -> f64
     ensures { λ s. ⌜ s ≡ sinBy q r ⌝ }
 {
@@ -220,45 +239,23 @@ fn sin_by(q: u64, r: f64) -> f64
     -cos_at(r)
 }
 
-fn cos_by(q: u64, r: f64) -> f64
-    ensures { λ s. ⌜ s ≡ cosBy q r ⌝ }
-{
-    if q == 0 {
-        return cos_at(r);
-    }
-    if q == 1 {
-        return -sin_at(r);
-    }
-    if q == 2 {
-        return -cos_at(r);
-    }
-    sin_at(r)
-}
-
 pub fn sin(b: f64) -> f64
     ensures { λ r. ⌜ r ≡ sinOf b ⌝ }
 {
-    if b != b {
-        return b;
+    match turn_of(b) {
+        Turn::Far => 0.0 / 0.0,
+        Turn::By(q, r) => sin_by(q, r),
     }
-    if number::abs(b) > 1048576.0 {
-        return 0.0 / 0.0;
-    }
-    let n = turns_of(b);
-    sin_by(quarter_of(n), rest_of(b, n))
 }
 
+// cos is sin one quarter turn further.
 pub fn cos(b: f64) -> f64
     ensures { λ r. ⌜ r ≡ cosOf b ⌝ }
 {
-    if b != b {
-        return b;
+    match turn_of(b) {
+        Turn::Far => 0.0 / 0.0,
+        Turn::By(q, r) => sin_by((q + 1) % 4, r),
     }
-    if number::abs(b) > 1048576.0 {
-        return 0.0 / 0.0;
-    }
-    let n = turns_of(b);
-    cos_by(quarter_of(n), rest_of(b, n))
 }
 
 fn atan_sum(w: f64) -> f64

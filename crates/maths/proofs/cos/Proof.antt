@@ -1,66 +1,39 @@
 -- `maths::cos` meets its contract. Assumes nothing.
-use mathlib.Core.Path.{_≡_, refl, sym, ap, _∙_, subst}
+use mathlib.Core.Path.{sym, _∙_}
+use native.Mathlib.Omega.{arith}
 use borrow.Author.Needs.{needs}
-use mathlib.Core.Bool.{false}
-use Prim.Native.Nat.{_^_}
-use lib.Dec.{T}
-use lib.Ieee.{isNan, lt, ofBits, ofInt}
-use lib.Ieee.Compare.{differs-from-itself}
-use mir.Syntax.{w64}
-use mir.ValLaws.{toZ-ofZ}
-use Rattle.number.specs.Notation.{if_then_else_, bits, whole}
-use Rattle.number.specs.Sign.{absOf}
-use Rattle.maths.specs.Trig.{cosOf}
 use Rattle.number.specs.Literals.{undefined}
-use Rattle.number.specs.Order.{nan-test}
-use Rattle.number.specs.Cast.{again}
-use Rattle.maths.proofs.Range.{turnable}
+use Rattle.maths.specs.Trig.{cosOf}
+use Rattle.maths.proofs.Quarters.{by-small, further}
 use Rattle.maths.proofs.cos.Statement.{statement}
 use Rattle.maths.proofs.cos.Tie as tie
 
-far : whole (2 ^ 20) ≡ bits 0x4130_0000_0000_0000
-unfolding ofInt ofBits
-far = refl
+turn-of-requires : tie.Need-turn-of-requires
+turn-of-requires c κs = search needs
 
-real : (c : tie.Else1) → isNan (c .before .args .b) ≡ false
-real c = nan-test (c .before .args .b) ∙ c .if1 .left
+enum-told : tie.Need-enum-told
+enum-told c = search needs
+
+enum-known-q : tie.Need-enum-known-q
+enum-known-q c = search needs
+
+add-sin-by : tie.Need-add-sin-by
+add-sin-by c = record { fits = omega (arith, by-small _ _ _ (sym (c .before .before .before .turn-of .ensures) ∙ c .before .q .given .1)) }
+
+sin-by-requires : tie.Need-sin-by-requires
+sin-by-requires c κs = search needs
 
 returns : tie.Need-returns
-unfolding cosOf if_then_else_
-returns c = simp (nan-test, c .if1 .taken) (differs-from-itself (c .before .args .b) (subst T (sym (c .if1 .taken)) tt))
-
-abs-requires : tie.Need-abs-requires
-abs-requires c κs = search needs
+unfolding cosOf
+returns c = simp (sym (c .before .before .turn-of .ensures) ∙ c .enum-told .given .1, undefined)
 
 returns-2 : tie.Need-returns-2
-unfolding cosOf if_then_else_
-returns-2 c = simp (real (c .before .before), far, sym (c .before .abs .ensures), c .if2 .taken, undefined)
-
-near : (c : tie.Else2) → lt (bits 0x4130_0000_0000_0000) (absOf (c .before .before .before .args .b)) ≡ false
-near c = ap (lt (bits 0x4130_0000_0000_0000)) (sym (c .before .abs .ensures)) ∙ c .if2 .left
-
-turns-of-requires : tie.Need-turns-of-requires
-turns-of-requires c κs = turnable (c .before .before .before .args .b) (real (c .before .before)) (near c)
-
-n-is : (c : tie.After-turns-of) → again (c .turns-of .result) ≡ c .turns-of .result
-n-is c = toZ-ofZ w64 (c .turns-of .result) (record { sfits = c .turns-of .ok })
-
-quarter-of-requires : tie.Need-quarter-of-requires
-quarter-of-requires c κs = rw (n-is c) (c .turns-of .ensures .1)
-
-rest-of-requires : tie.Need-rest-of-requires
-rest-of-requires c κs = search needs
-
-cos-by-requires : tie.Need-cos-by-requires
-cos-by-requires c κs = search needs
-
-returns-3 : tie.Need-returns-3
-unfolding cosOf if_then_else_
-returns-3 c =
-    let n = c .before .before .before in
-    let e = n .before in
-    simp (real (e .before .before), far, near e)
-    (cc (n-is n, n .turns-of .ensures .0, c .before .before .quarter-of .ensures, c .before .rest-of .ensures, c .cos-by .ensures))
+unfolding cosOf
+returns-2 c =
+    let e = sym (c .before .before .before .before .turn-of .ensures) ∙ c .before .before .q .given .1 in
+    simp e (c .sin-by .ensures ∙ further _ _ (by-small _ _ _ e))
 
 pub cos-spec : {M : Type 1} → statement M
-cos-spec = tie.close (tie.spec returns abs-requires returns-2 turns-of-requires quarter-of-requires rest-of-requires cos-by-requires returns-3)
+cos-spec =
+    tie.close
+    (tie.spec turn-of-requires enum-told enum-known-q add-sin-by sin-by-requires returns returns-2)
