@@ -5,12 +5,24 @@ use crate::house::{
     MAX_LEVELS, MAX_NODES, MAX_QUANTIFIERS, MAX_SIZE, MAX_VARIABLES, NODE, Node, Parts, Record,
     is_sound, kind,
 };
+use crate::smt::interval::Interval;
 use crate::splitmix::SplitMix64;
+
+/// What constants and ranges are like.
+#[derive(Clone, Copy, Debug, PartialEq)]
+pub enum Temper {
+    /// Such that exp and ln meet, so that boxes are narrowed.
+    Narrowing,
+    /// Ordinary numbers, so that most trees have a value.
+    Ordinary,
+    /// Any number that a file may hold.
+    Wild,
+}
 
 /// What a problem may be made of.
 #[derive(Clone, Copy, Debug)]
 pub struct Shape {
-    /// At most so many nodes; at least one.
+    /// At most so many nodes. Without any, every constraint is made of empty And and Or.
     pub nodes: usize,
     /// Expanded size and depth of a node.
     pub size: usize,
@@ -22,8 +34,7 @@ pub struct Shape {
     pub levels: usize,
     pub quantifiers: usize,
     pub bounds: usize,
-    /// Ordinary constants and ranges only, so that most trees have a value.
-    pub tame: bool,
+    pub temper: Temper,
 }
 
 impl Shape {
@@ -38,7 +49,18 @@ impl Shape {
             levels: 1 + rng.below(4),
             quantifiers: rng.below(2),
             bounds: rng.below(5),
-            tame: !rng.one_in(4),
+            temper: rng.pick(&[Temper::Ordinary, Temper::Ordinary, Temper::Wild]),
+        }
+    }
+
+    /// Small, with boxes that are mostly narrowed.
+    pub fn narrowing(rng: &mut SplitMix64) -> Self {
+        Self {
+            nodes: 4 + rng.below(12),
+            depth: 2 + rng.below(6),
+            variables: 1 + rng.below(4),
+            temper: Temper::Narrowing,
+            ..Self::small(rng)
         }
     }
 
@@ -53,7 +75,7 @@ impl Shape {
             levels: MAX_LEVELS,
             quantifiers: MAX_QUANTIFIERS,
             bounds: MAX_BOUNDS,
-            tame: rng.one_in(2),
+            temper: rng.pick(&[Temper::Narrowing, Temper::Ordinary, Temper::Wild]),
         }
     }
 
@@ -68,15 +90,20 @@ impl Shape {
             levels: 1 + rng.below(MAX_LEVELS),
             quantifiers: rng.below(MAX_QUANTIFIERS + 1),
             bounds: rng.below(MAX_BOUNDS + 1),
-            tame: rng.one_in(2),
+            temper: rng.pick(&[Temper::Narrowing, Temper::Ordinary, Temper::Wild]),
         }
     }
 
     /// Mostly small, now and then large.
     pub fn any(rng: &mut SplitMix64) -> Self {
         match rng.below(20) {
+            _ if rng.one_in(100) => Self {
+                nodes: 0,
+                ..Self::medium(rng)
+            },
             0 => Self::large(rng),
-            1..=6 => Self::medium(rng),
+            1..=5 => Self::medium(rng),
+            6..=10 => Self::narrowing(rng),
             _ => Self::small(rng),
         }
     }
@@ -84,11 +111,18 @@ impl Shape {
 
 /// A problem that the reader takes.
 pub fn problem(rng: &mut SplitMix64, shape: &Shape) -> Parts {
-    let nodes = nodes(rng, shape);
-    let constraints = constraints(rng, shape, nodes.len());
-    let bounds = (0..rng.below(shape.bounds + 1))
-        .map(|_| range(rng, shape.tame))
-        .collect();
+    let count = match shape.temper {
+        // A box for each variable, or one less or more.
+        Temper::Narrowing => rng.pick(&[0, 1, 1, 1, 1, 1, 1, 2]) + shape.variables - 1,
+        _ => rng.below(shape.bounds + 1),
+    };
+    let count = count.min(MAX_BOUNDS);
+    let bounds: Vec<(f64, f64)> = (0..count).map(|_| range(rng, shape.temper)).collect();
+    let nodes = match shape.temper {
+        Temper::Narrowing => narrowed_nodes(rng, shape, &bounds),
+        _ => nodes(rng, shape),
+    };
+    let constraints = constraints(rng, shape, &nodes, &bounds);
     Parts {
         nodes,
         constraints,
@@ -99,7 +133,7 @@ pub fn problem(rng: &mut SplitMix64, shape: &Shape) -> Parts {
 /// The largest problem that the reader takes: every count, the size, the depth, the levels and the quantifiers at their
 /// limits. A size is odd, so that the largest one is 4095.
 pub fn largest() -> Parts {
-    // Nodes 0 to 11 double the size up to 4095, 12 to 138 make a chain of depth 128, and copies of doubled ones follow.
+    // Nodes 0 to 11 double the size up to 4095, 12 to 139 make a chain of depth 128, and copies of doubled ones follow.
     let mut nodes = vec![Node::Var(15)];
     nodes.extend((0..11).map(|k| Node::Eml(k, k)));
     nodes.push(Node::Const(0.5));
@@ -129,8 +163,11 @@ pub fn largest() -> Parts {
 }
 
 /// A finite constant.
-fn constant(rng: &mut SplitMix64, tame: bool) -> f64 {
-    if tame || rng.one_in(2) {
+fn constant(rng: &mut SplitMix64, temper: Temper) -> f64 {
+    if temper == Temper::Narrowing {
+        return rng.uniform(0.1, 3.0);
+    }
+    if temper == Temper::Ordinary || rng.one_in(2) {
         return match rng.below(6) {
             0 => rng.pick(&[0.0, -0.0, 1.0, 2.0, -1.0, 0.5]),
             1 => rng.uniform(-3.0, 3.0),
@@ -177,12 +214,84 @@ fn nodes(rng: &mut SplitMix64, shape: &Shape) -> Vec<Node> {
             None => {
                 let node = match rng.below(6) {
                     0 => Node::One,
-                    1 | 2 => Node::Const(constant(rng, shape.tame)),
+                    1 | 2 => Node::Const(constant(rng, shape.temper)),
                     _ => Node::Var(rng.below(shape.variables) as u32),
                 };
                 (node, (1, 1))
             }
         };
+        list.push(node);
+        extents.push(extent);
+    }
+    list
+}
+
+/// The values of a node over the boxes, as far as they have an interval; those of the nodes before it are known.
+fn span(node: Node, before: &[Option<Interval>], bounds: &[(f64, f64)]) -> Option<Interval> {
+    match node {
+        Node::One => Some(Interval::point(1.0)),
+        Node::Const(v) => Some(Interval::point(v)),
+        Node::Var(i) => {
+            let (lo, hi) = bounds.get(i as usize).copied().unwrap_or((-10.0, 10.0));
+            Some(Interval::new(lo, hi))
+        }
+        Node::Eml(left, right) => eml_span(before[left as usize], before[right as usize]),
+    }
+}
+
+fn spans(nodes: &[Node], bounds: &[(f64, f64)]) -> Vec<Option<Interval>> {
+    let mut spans = Vec::new();
+    for &node in nodes {
+        spans.push(span(node, &spans, bounds));
+    }
+    spans
+}
+
+/// exp of the left interval minus ln of the right one, where the logarithm exists.
+fn eml_span(left: Option<Interval>, right: Option<Interval>) -> Option<Interval> {
+    let exp = left?.exp();
+    let ln = right.filter(|r| r.lo > 0.0 && r.hi.is_finite())?.ln();
+    Some(Interval::new(exp.lo - ln.hi, exp.hi - ln.lo))
+}
+
+fn crosses_zero(span: &Option<Interval>) -> bool {
+    span.is_some_and(|iv| iv.lo < 0.0 && iv.hi > 0.0)
+}
+
+/// Nodes whose values mostly lie on both sides of zero, so that the boxes are narrowed.
+fn narrowed_nodes(rng: &mut SplitMix64, shape: &Shape, bounds: &[(f64, f64)]) -> Vec<Node> {
+    let mut list: Vec<Node> = Vec::new();
+    let mut extents: Vec<(usize, usize)> = Vec::new();
+    let mut spans: Vec<Option<Interval>> = Vec::new();
+    while list.len() < shape.nodes {
+        let count = list.len();
+        let mut pair = None;
+        let leaf = count == 0 || rng.one_in(4);
+        for _ in 0..if leaf { 0 } else { 12 } {
+            let (left, right) = (rng.below(count), rng.below(count));
+            let (size, depth) = joined(extents[left], extents[right]);
+            let span = eml_span(spans[left], spans[right]);
+            let wanted = crosses_zero(&span) || (span.is_some() && rng.one_in(6));
+            if size <= shape.size && depth <= shape.depth && wanted {
+                pair = Some((left, right));
+                break;
+            }
+        }
+        let (node, extent) = match pair {
+            Some((left, right)) => (
+                Node::Eml(left as u32, right as u32),
+                joined(extents[left], extents[right]),
+            ),
+            None => {
+                let node = match rng.below(6) {
+                    0 => Node::One,
+                    1 => Node::Const(constant(rng, shape.temper)),
+                    _ => Node::Var(rng.below(shape.variables) as u32),
+                };
+                (node, (1, 1))
+            }
+        };
+        spans.push(span(node, &spans, bounds));
         list.push(node);
         extents.push(extent);
     }
@@ -263,11 +372,27 @@ fn append_sub(
 }
 
 /// Records in postorder that leave one constraint.
-fn constraints(rng: &mut SplitMix64, shape: &Shape, nodes: usize) -> Vec<Record> {
+fn constraints(
+    rng: &mut SplitMix64,
+    shape: &Shape,
+    nodes: &[Node],
+    bounds: &[(f64, f64)],
+) -> Vec<Record> {
+    let favoured: Vec<usize> = match shape.temper {
+        Temper::Narrowing => {
+            let spans = spans(nodes, bounds);
+            (0..nodes.len())
+                .filter(|&k| crosses_zero(&spans[k]))
+                .collect()
+        }
+        // The later nodes are the larger ones.
+        _ => (nodes.len().saturating_sub(3)..nodes.len()).collect(),
+    };
     let mut writer = Writer {
         left: shape.constraints,
-        nodes,
-        tame: shape.tame,
+        nodes: nodes.len(),
+        favoured,
+        temper: shape.temper,
         variables: shape.variables,
         out: Vec::new(),
     };
@@ -281,7 +406,9 @@ struct Writer {
     /// Records that may still be promised.
     left: usize,
     nodes: usize,
-    tame: bool,
+    /// Nodes that atoms are about more often.
+    favoured: Vec<usize>,
+    temper: Temper,
     variables: usize,
     out: Vec<Record>,
 }
@@ -295,7 +422,7 @@ impl Writer {
         let choice = match (inner, path) {
             (true, true) => 4 + rng.below(6),
             (true, false) => rng.below(10),
-            (false, _) => rng.pick(&[0, 1, 2, 3, 0, 1, 2, 5]),
+            (false, _) => rng.pick(&[0, 0, 0, 0, 0, 0, 0, 5]),
         };
         let record = match choice {
             4 => {
@@ -322,15 +449,15 @@ impl Writer {
                 } else {
                     rng.below(self.variables)
                 };
-                let (lo, hi) = range(rng, self.tame);
+                let (lo, hi) = range(rng, self.temper);
                 Record::quantifier(rng.pick(&[kind::FOR_ALL, kind::EXISTS]), variable, lo, hi)
             }
+            _ if self.nodes == 0 => Record::new(rng.pick(&[kind::AND, kind::OR]), 0),
             _ => {
-                // The later nodes are the larger ones.
-                let node = if rng.one_in(2) {
+                let node = if self.favoured.is_empty() || rng.one_in(3) {
                     rng.below(self.nodes)
                 } else {
-                    self.nodes - 1 - rng.below(self.nodes.min(3))
+                    rng.pick(&self.favoured)
                 };
                 Record::new(rng.below(6) as u8, node)
             }
@@ -340,9 +467,19 @@ impl Writer {
 }
 
 /// A sound range.
-pub fn range(rng: &mut SplitMix64, tame: bool) -> (f64, f64) {
-    let choice = if tame { rng.below(8) } else { rng.below(16) };
+pub fn range(rng: &mut SplitMix64, temper: Temper) -> (f64, f64) {
     let width = rng.uniform(0.0, 4.0);
+    let choice = match temper {
+        Temper::Narrowing => {
+            // An exponent, or the argument of a logarithm that reaches as far.
+            let (least, most) = rng.pick(&[(-3.0, 1.0), (0.05, 4.0)]);
+            let lo = rng.uniform(least, most);
+            let far = rng.pick(&[0.0, 1.0, 1.0, 1.0, 4.0, 4.0, 4.0, 4.0]);
+            return (lo, lo + far * width);
+        }
+        Temper::Ordinary => rng.below(8),
+        Temper::Wild => rng.below(16),
+    };
     match choice {
         0..=2 => ordered(rng.uniform(-10.0, 10.0), rng.uniform(-10.0, 10.0)),
         3 => {
@@ -390,6 +527,8 @@ fn ordered(a: f64, b: f64) -> (f64, f64) {
 pub fn unsound_range(rng: &mut SplitMix64) -> (f64, f64) {
     let beyond = f64::from_bits(LARGEST_END.to_bits() + 1 + rng.below(2) as u64);
     let v = rng.uniform(-5.0, 5.0);
+    let a = rng.uniform(1.0, 5.0);
+    let below_a = f64::from_bits(a.to_bits() - 1);
     let nan = f64::from_bits(rng.pick(&[
         0x7FF8_0000_0000_0000,
         0xFFF8_0000_0000_0000,
@@ -398,7 +537,8 @@ pub fn unsound_range(rng: &mut SplitMix64) -> (f64, f64) {
     ]));
     let inf = f64::INFINITY;
     let pair = match rng.below(8) {
-        0 => (v, f64::from_bits(v.abs().to_bits() - 1).min(v - 1e-9)),
+        // Reversed by one bit.
+        0 => rng.pick(&[(a, below_a), (-below_a, -a)]),
         1 => (f64::from_bits(1), rng.pick(&[0.0, -0.0])),
         2 => (v + 1.0, v),
         3 => rng.pick(&[(v, inf), (-inf, v), (-inf, inf), (inf, inf), (inf, -inf)]),
@@ -428,29 +568,54 @@ pub fn point(rng: &mut SplitMix64, length: usize) -> Vec<f64> {
     (0..length).map(|_| value(rng)).collect()
 }
 
-/// Any file: sound, damaged in one to three places, or noise.
-pub fn any_file(rng: &mut SplitMix64) -> Vec<u8> {
-    if rng.one_in(40) {
-        let length = rng.below(200);
-        return (0..length).map(|_| rng.draw() as u8).collect();
-    }
+/// Bodies of a file, sound or damaged in up to three places.
+fn any_bodies(rng: &mut SplitMix64) -> Bodies {
     let shape = Shape::any(rng);
     let mut bodies = problem(rng, &shape).to_bodies();
-    if rng.one_in(4) {
-        return bodies.to_file();
-    }
-    for _ in 0..rng.pick(&[0, 1, 1, 1, 1, 2, 2, 3]) {
+    for _ in 0..rng.pick(&[0, 0, 0, 1, 1, 1, 1, 2, 2, 3]) {
         match rng.below(5) {
             0 | 1 => damage_nodes(rng, &mut bodies.nodes),
             2 | 3 => damage_constraints(rng, &mut bodies),
             _ => damage_bounds(rng, &mut bodies.bounds),
         }
     }
+    bodies
+}
+
+/// Any file: sound, damaged in its records or around them, or noise.
+pub fn any_file(rng: &mut SplitMix64) -> Vec<u8> {
+    if rng.one_in(40) {
+        let length = rng.below(200);
+        return (0..length).map(|_| rng.draw() as u8).collect();
+    }
+    let bodies = any_bodies(rng);
     let mut file = bodies.to_file();
-    if rng.one_in(4) {
+    if rng.one_in(5) {
         damage_file(rng, &mut file, &bodies);
     }
     file
+}
+
+/// Any node and constraint bytes, as they are given without a file.
+pub fn any_records(rng: &mut SplitMix64) -> (Vec<u8>, Vec<u8>) {
+    let Bodies {
+        mut nodes,
+        mut constraints,
+        ..
+    } = any_bodies(rng);
+    if rng.one_in(20) {
+        let list = if rng.one_in(2) {
+            &mut nodes
+        } else {
+            &mut constraints
+        };
+        if rng.one_in(2) {
+            list.truncate(rng.below(list.len() + 1));
+        } else {
+            list.extend(vec![0; 1 + rng.below(24)]);
+        }
+    }
+    (nodes, constraints)
 }
 
 fn set_u32(bytes: &mut [u8], at: usize, value: u32) {
@@ -597,7 +762,7 @@ pub fn damage_constraints(rng: &mut SplitMix64, bodies: &mut Bodies) {
         4 => {
             // The argument at its limit, past it, or anywhere.
             let limit = match record[0] {
-                0..=5 => nodes as u32 - 1,
+                0..=5 => (nodes as u32).saturating_sub(1),
                 6 => 0,
                 7 | 8 => u32::from_le_bytes([record[4], record[5], record[6], record[7]]),
                 _ => MAX_VARIABLES as u32 - 1,
@@ -639,7 +804,7 @@ pub fn damage_constraints(rng: &mut SplitMix64, bodies: &mut Bodies) {
         11 => {
             // Quantifiers at the limit or past it.
             for _ in 0..MAX_QUANTIFIERS - 1 + rng.below(3) {
-                let (lo, hi) = range(rng, false);
+                let (lo, hi) = range(rng, Temper::Wild);
                 let kind = rng.pick(&[kind::FOR_ALL, kind::EXISTS]);
                 append_record(constraints, Record::quantifier(kind, 0, lo, hi));
             }
@@ -763,7 +928,8 @@ mod tests {
     use crate::eval::EvalCtx;
     use crate::house::{print_of_constraint, read_file, read_records, records_of};
     use crate::smt::constraint::EmlConstraint;
-    use crate::tree::EmlNode;
+    use crate::smt::interval::{IntervalDomain, PropResult};
+    use crate::tree::{EmlNode, EmlTree};
     use std::sync::Arc;
 
     /// Expanded size and depth, in document 01's count.
@@ -812,7 +978,7 @@ mod tests {
         let mut empty = [0; 2];
         let (mut size, mut depth, mut most_levels, mut most_quantifiers) = (0, 0, 0, 0);
         let (mut nodes, mut constraints) = (0, 0);
-        let mut values = 0;
+        let (mut values, mut none) = (0, 0);
         let count = 20_000;
         for _ in 0..count {
             let shape = Shape::any(&mut rng);
@@ -843,8 +1009,10 @@ mod tests {
                 depth = depth.max(d);
             }
             let point = point(&mut rng, shape.variables);
-            let last = read.trees.last().unwrap();
-            values += usize::from(last.eval_real(&EvalCtx::new(&point)).is_ok());
+            let last = read.trees.last();
+            let has_value = |tree: &EmlTree| tree.eval_real(&EvalCtx::new(&point)).is_ok();
+            values += usize::from(last.is_some_and(has_value));
+            none += usize::from(last.is_none());
         }
         say(&format!(
             "problems: {count}, records by kind {kinds:?}, empty And and Or {empty:?}, nodes {nodes}, records {constraints}, \
@@ -860,6 +1028,33 @@ mod tests {
             (MAX_LEVELS, MAX_QUANTIFIERS)
         );
         assert!(values >= count / 4);
+        assert!(none >= 50);
+    }
+
+    /// Each answer of propagation comes up often, and so does a Conflict after something was written.
+    #[test]
+    fn problems_are_narrowed() {
+        let mut rng = SplitMix64::new(15);
+        let (mut changed, mut stable, mut conflict, mut conflict_after_writing) = (0, 0, 0, 0);
+        let count = 20_000;
+        for _ in 0..count {
+            let shape = Shape::narrowing(&mut rng);
+            let parts = problem(&mut rng, &shape);
+            let read = read_file(&parts.to_file()).unwrap();
+            let mut domain = IntervalDomain::new(&read.bounds, shape.variables);
+            let before = domain.vars.clone();
+            match domain.propagate(&read.constraint) {
+                PropResult::Changed => changed += 1,
+                PropResult::Stable => stable += 1,
+                PropResult::Conflict if domain.vars != before => conflict_after_writing += 1,
+                PropResult::Conflict => conflict += 1,
+            }
+        }
+        say(&format!(
+            "narrowing: {count}, Changed {changed}, Stable {stable}, Conflict {conflict}, after writing {conflict_after_writing}"
+        ));
+        let each = [changed, stable, conflict, conflict_after_writing];
+        assert!(each.iter().all(|&n| n >= 1000), "{each:?}");
     }
 
     #[test]
@@ -867,8 +1062,8 @@ mod tests {
         let mut rng = SplitMix64::new(12);
         let mut points = 0;
         for _ in 0..100_000 {
-            for tame in [true, false] {
-                let (lo, hi) = range(&mut rng, tame);
+            for temper in [Temper::Narrowing, Temper::Ordinary, Temper::Wild] {
+                let (lo, hi) = range(&mut rng, temper);
                 assert!(is_sound(lo, hi), "{lo} {hi}");
                 points += usize::from(lo == hi);
             }
@@ -892,5 +1087,24 @@ mod tests {
             "files: {count}, read or refused 1 to 7: {numbers:?}"
         ));
         assert!(numbers.iter().all(|&n| n >= 1000), "{numbers:?}");
+    }
+
+    /// The same without a file; 1 is about a file only.
+    #[test]
+    fn every_refusal_of_records_comes_up() {
+        let mut rng = SplitMix64::new(14);
+        let mut numbers = [0; 8];
+        let count = 60_000;
+        for _ in 0..count {
+            let (nodes, constraints) = any_records(&mut rng);
+            let answer = read_records(&nodes, &constraints);
+            numbers[usize::from(answer.err().unwrap_or(0))] += 1;
+        }
+        say(&format!(
+            "records: {count}, read or refused 1 to 7: {numbers:?}"
+        ));
+        assert_eq!(numbers[1], 0);
+        let others = numbers.iter().enumerate().filter(|(n, _)| *n != 1);
+        assert!(others.clone().all(|(_, &n)| n >= 1000), "{numbers:?}");
     }
 }

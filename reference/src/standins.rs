@@ -223,7 +223,7 @@ pub fn sign_bit(x: f64) -> bool {
     !x.is_nan() && x.is_sign_negative()
 }
 
-/// x with the sign bit of a positive angle set where `sign` has it set.
+/// The angle, negated where `sign` has its sign bit set.
 fn with_sign(angle: f64, sign: f64) -> f64 {
     if sign_bit(sign) { -angle } else { angle }
 }

@@ -84,6 +84,22 @@ fn narrowing_of_not() {
     assert_eq!(propagate(not.to_nnf(), -3.0, -1.0).0, PropResult::Stable);
 }
 
+/// The source answers Conflict although a point of the box passes the check: where exp of an end overflows, and where a
+/// strict atom's values end within four times the machine's epsilon of zero.
+#[test]
+fn narrowing_beyond_the_check() {
+    let exp = EmlConstraint::GtZero(EmlTree::eml(&var(), &EmlTree::one()));
+    assert!(check_constraint(&exp, &EvalCtx::new(&[1.0])));
+    assert_eq!(propagate(exp.clone(), 0.0, 709.0).0, PropResult::Stable);
+    assert_eq!(propagate(exp, 0.0, 710.0).0, PropResult::Conflict);
+
+    assert!(check_constraint(&gt(), &EvalCtx::new(&[1e-16])));
+    assert_eq!(propagate(gt(), 0.0, 1e-16).0, PropResult::Conflict);
+    let lt = EmlConstraint::LtZero(var());
+    assert!(check_constraint(&lt, &EvalCtx::new(&[-1e-16])));
+    assert_eq!(propagate(lt, -1e-16, 0.0).0, PropResult::Conflict);
+}
+
 #[test]
 fn evaluation() {
     let zero = EmlTree::const_val(0.0);

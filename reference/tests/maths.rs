@@ -125,7 +125,13 @@ fn ln() {
     c.done(10_000_000);
 }
 
-fn angles(mut c: Comparison<1, 1>, seed: u64) {
+fn angles(
+    name: &'static str,
+    rust: fn([f64; 1]) -> [f64; 1],
+    port: fn([f64; 1]) -> [f64; 1],
+    seed: u64,
+) {
+    let mut c = Comparison::new(name, rust, port);
     edges(&mut c);
     let mut at: u64 = (0..4096).map(|k| ties(&mut c, INV_QUARTER, k, 4)).sum();
     let mut rng = SplitMix64::new(seed);
@@ -148,24 +154,18 @@ fn angles(mut c: Comparison<1, 1>, seed: u64) {
         };
         c.at([x]);
     }
-    say(&format!("sin or cos: {at} arguments at ties of nearest"));
+    say(&format!("{name}: {at} of them at ties of nearest"));
     c.done(1_000_000);
 }
 
 #[test]
 fn sin() {
-    angles(
-        Comparison::new("sin", |[x]| [standins::sin(x)], |[x]| [port::sin(x)]),
-        103,
-    );
+    angles("sin", |[x]| [standins::sin(x)], |[x]| [port::sin(x)], 103);
 }
 
 #[test]
 fn cos() {
-    angles(
-        Comparison::new("cos", |[x]| [standins::cos(x)], |[x]| [port::cos(x)]),
-        104,
-    );
+    angles("cos", |[x]| [standins::cos(x)], |[x]| [port::cos(x)], 104);
 }
 
 #[test]
