@@ -80,3 +80,34 @@ impl<const M: usize> Comparison<1, M> {
         }
     }
 }
+
+/// Counts answers by refusal number, 0 being none.
+pub struct Tally {
+    name: &'static str,
+    counts: [u64; 11],
+}
+
+impl Tally {
+    pub fn new(name: &'static str) -> Self {
+        Self {
+            name,
+            counts: [0; 11],
+        }
+    }
+
+    pub fn add(&mut self, number: u8) {
+        self.counts[number as usize] += 1;
+    }
+
+    /// Prints the counts; each number listed must have come up at least `least` times.
+    pub fn done(self, numbers: &[u8], least: u64) {
+        let total: u64 = self.counts.iter().sum();
+        say(&format!(
+            "{}: {total} compared, all equal; by number {:?}",
+            self.name, self.counts
+        ));
+        for &number in numbers {
+            assert!(self.counts[number as usize] >= least, "number {number}");
+        }
+    }
+}

@@ -17,6 +17,43 @@ mod raw {
         pub fn eml_bits_of(x: f64) -> u64;
         pub fn eml_complex_exp(re: f64, im: f64, out_re: *mut f64, out_im: *mut f64);
         pub fn eml_complex_ln(re: f64, im: f64, out_re: *mut f64, out_im: *mut f64);
+        pub fn eml_canonical_ln(nodes: *mut u8, length: usize, count: usize, x: usize) -> u8;
+        pub fn eml_canonical_sub(
+            nodes: *mut u8,
+            length: usize,
+            count: usize,
+            x: usize,
+            y: usize,
+        ) -> u8;
+        pub fn eml_interval_is_empty(lo: f64, hi: f64) -> bool;
+        pub fn eml_interval_width(lo: f64, hi: f64) -> f64;
+        pub fn eml_interval_midpoint(lo: f64, hi: f64) -> f64;
+        pub fn eml_interval_contains(lo: f64, hi: f64, x: f64) -> bool;
+        pub fn eml_interval_split(
+            lo: f64,
+            hi: f64,
+            low: *mut f64,
+            middle: *mut f64,
+            high: *mut f64,
+        );
+        pub fn eml_interval_intersect(
+            lo: f64,
+            hi: f64,
+            other: f64,
+            another: f64,
+            low: *mut f64,
+            high: *mut f64,
+        );
+        pub fn eml_interval_hull(
+            lo: f64,
+            hi: f64,
+            other: f64,
+            another: f64,
+            low: *mut f64,
+            high: *mut f64,
+        );
+        pub fn eml_interval_exp(lo: f64, hi: f64, low: *mut f64, high: *mut f64);
+        pub fn eml_interval_ln(lo: f64, hi: f64, low: *mut f64, high: *mut f64);
     }
 }
 
@@ -58,3 +95,58 @@ macro_rules! complex_call {
 
 complex_call!(complex_exp, eml_complex_exp);
 complex_call!(complex_ln, eml_complex_ln);
+
+/// A refusal: document 01's number.
+pub type Refusal = u8;
+
+fn refused_unless_zero<T>(number: Refusal, value: T) -> Result<T, Refusal> {
+    if number == 0 { Ok(value) } else { Err(number) }
+}
+
+/// Appends the nodes of ln x to a list of `count` nodes; the number of the last one.
+pub fn canonical_ln(nodes: &mut [u8], count: usize, x: usize) -> Result<usize, Refusal> {
+    let (list, length) = (nodes.as_mut_ptr(), nodes.len());
+    let number = unsafe { raw::eml_canonical_ln(list, length, count, x) };
+    refused_unless_zero(number, count.wrapping_add(3))
+}
+
+/// Appends the nodes of x - y.
+pub fn canonical_sub(nodes: &mut [u8], count: usize, x: usize, y: usize) -> Result<usize, Refusal> {
+    let (list, length) = (nodes.as_mut_ptr(), nodes.len());
+    let number = unsafe { raw::eml_canonical_sub(list, length, count, x, y) };
+    refused_unless_zero(number, count.wrapping_add(6))
+}
+
+call!(interval_is_empty, eml_interval_is_empty, (lo: f64, hi: f64) -> bool);
+call!(interval_width, eml_interval_width, (lo: f64, hi: f64) -> f64);
+call!(interval_midpoint, eml_interval_midpoint, (lo: f64, hi: f64) -> f64);
+call!(interval_contains, eml_interval_contains, (lo: f64, hi: f64, x: f64) -> bool);
+
+/// A call whose result is an interval.
+macro_rules! interval_call {
+    ($name:ident, $raw:ident, ($($x:ident),*)) => {
+        #[inline]
+        pub fn $name($($x: f64),*) -> (f64, f64) {
+            let (mut low, mut high) = (0.0, 0.0);
+            unsafe { raw::$raw($($x),*, &mut low, &mut high) };
+            (low, high)
+        }
+    };
+}
+
+interval_call!(
+    interval_intersect,
+    eml_interval_intersect,
+    (lo, hi, other, another)
+);
+interval_call!(interval_hull, eml_interval_hull, (lo, hi, other, another));
+interval_call!(interval_exp, eml_interval_exp, (lo, hi));
+interval_call!(interval_ln, eml_interval_ln, (lo, hi));
+
+/// The ends of the halves: low, middle, high.
+#[inline]
+pub fn interval_split(lo: f64, hi: f64) -> (f64, f64, f64) {
+    let (mut low, mut middle, mut high) = (0.0, 0.0, 0.0);
+    unsafe { raw::eml_interval_split(lo, hi, &mut low, &mut middle, &mut high) };
+    (low, middle, high)
+}

@@ -2,8 +2,8 @@
 use mathlib.Core.Path.{ap}
 use borrow.Author.Needs.{needs}
 use Rattle.maths.specs.declared.Complex.{Complex}
-use Rattle.eml.proofs.eml_complex_exp.Statement.{statement}
-use Rattle.eml.proofs.eml_complex_exp.Tie as tie
+use Rattle.eml.proofs.mathematics.eml_complex_exp.Statement.{statement}
+use Rattle.eml.proofs.mathematics.eml_complex_exp.Tie as tie
 
 complex-exp-requires : tie.Need-complex-exp-requires
 complex-exp-requires c κs = search needs

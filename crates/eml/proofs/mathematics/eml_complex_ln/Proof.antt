@@ -2,8 +2,8 @@
 use mathlib.Core.Path.{ap}
 use borrow.Author.Needs.{needs}
 use Rattle.maths.specs.declared.Complex.{Complex}
-use Rattle.eml.proofs.eml_complex_ln.Statement.{statement}
-use Rattle.eml.proofs.eml_complex_ln.Tie as tie
+use Rattle.eml.proofs.mathematics.eml_complex_ln.Statement.{statement}
+use Rattle.eml.proofs.mathematics.eml_complex_ln.Tie as tie
 
 complex-ln-requires : tie.Need-complex-ln-requires
 complex-ln-requires c κs = search needs

@@ -1,0 +1,49 @@
+-- `interval::box_at` meets its contract. Assumes nothing.
+use borrow.Author.Needs.{needs}
+use Rattle.interval.proofs.box_at.Statement.{statement}
+use Rattle.interval.proofs.box_at.Tie as tie
+use mathlib.Core.Path.{sym, _∙_}
+use native.Mathlib.Omega.{arith}
+use lib.ListN.{List·getD-eq-default}
+use lib.Ieee.{ofBits, ofInt, neg}
+use denote.Ref.{now}
+use Rattle.interval.specs.Boxes.{intervals, missing}
+use Rattle.interval.specs.BoxLaws.{intervals-at, intervals-short}
+
+mul-new : tie.Need-mul-new
+mul-new c = search needs
+
+shared-slice-read-new : tie.Need-shared-slice-read-new
+shared-slice-read-new c = search needs
+
+mul-new-2 : tie.Need-mul-new-2
+mul-new-2 c = search needs
+
+shared-slice-read-new-2 : tie.Need-shared-slice-read-new-2
+shared-slice-read-new-2 c = search needs
+
+new-requires : tie.Need-new-requires
+new-requires c κs = search needs
+
+returns : tie.Need-returns
+returns c = c .new .ensures ∙ intervals-at _ _ _ _ (c .before .before .before .before .before .before .pre) (c .before .before .before .if1 .taken)
+
+new-requires-2 : tie.Need-new-requires-2
+new-requires-2 c κs = search needs
+
+returns-2 : tie.Need-returns-2
+unfolding missing ofBits ofInt neg
+returns-2 c = c .new2 .ensures ∙ sym (List·getD-eq-default (intervals _ _) missing (omega (arith, c .before .if1 .left, intervals-short (now (c .before .before .before .before .args .lo)) (now (c .before .before .before .before .args .hi)))))
+
+pub box-at-spec : {M : Type 1} → statement M
+box-at-spec =
+    tie.close
+    (tie.spec
+    mul-new
+    shared-slice-read-new
+    mul-new-2
+    shared-slice-read-new-2
+    new-requires
+    returns
+    new-requires-2
+    returns-2)

@@ -1,0 +1,68 @@
+-- Laws of two lists of ends, and of the starting boxes. Assumes nothing.
+use Prim.Native.Nat.{ℕ, zero, suc, _<_, _≤_}
+use mathlib.Core.Path.{_≡_, refl, sym, ap, _∙_}
+use mathlib.Core.List.{List, [], _∷_, _++_}
+use native.Mathlib.Nat.{le-of-suc-le-suc, not-suc-le-zero}
+use native.Mathlib.Omega.{arith}
+use lib.ListN.{length, getD, set, take}
+use lib.Seq.{length-take-le, take-set-lt}
+use lib.Ieee.{Float, nan}
+use Rattle.interval.specs.Interval.{_‥_}
+use Rattle.interval.specs.Boxes.{intervals, missing, starting}
+use Rattle.interval.specs.declared.Interval.{Interval}
+
+pub intervals-at : (lo hi : List Float) (j : ℕ) (d : Interval) → length hi ≡ length lo → j < length lo → (getD lo j nan ‥ getD hi j nan) ≡ getD (intervals lo hi) j d
+unfolding intervals
+intervals-at [] hi j d e h = absurd (not-suc-le-zero h)
+intervals-at (a ∷ lo) [] j d e h = absurd (omega arith)
+intervals-at (a ∷ lo) (b ∷ hi) zero d e h = refl
+intervals-at (a ∷ lo) (b ∷ hi) (suc j) d e h = intervals-at lo hi j d (omega arith) (le-of-suc-le-suc h)
+
+pub intervals-length : (lo hi : List Float) → length hi ≡ length lo → length (intervals lo hi) ≡ length lo
+unfolding intervals
+intervals-length [] hi e = refl
+intervals-length (a ∷ lo) [] e = absurd (omega arith)
+intervals-length (a ∷ lo) (b ∷ hi) e = ap suc (intervals-length lo hi (omega arith))
+
+pub intervals-short : (lo hi : List Float) → length (intervals lo hi) ≤ length lo
+unfolding intervals
+intervals-short [] hi = omega arith
+intervals-short (a ∷ lo) [] = omega arith
+intervals-short (a ∷ lo) (b ∷ hi) = omega (arith, intervals-short lo hi)
+
+pub intervals-set : (lo hi : List Float) (j : ℕ) (a b : Float) → intervals (set lo j a) (set hi j b) ≡ set (intervals lo hi) j (a ‥ b)
+unfolding intervals
+intervals-set [] hi j a b = refl
+intervals-set (x ∷ lo) [] zero a b = refl
+intervals-set (x ∷ lo) [] (suc j) a b = refl
+intervals-set (x ∷ lo) (y ∷ hi) zero a b = refl
+intervals-set (x ∷ lo) (y ∷ hi) (suc j) a b = ap (λ (r : List Interval). (x ‥ y) ∷ r) (intervals-set lo hi j a b)
+
+pub intervals-take : (n : ℕ) (lo hi : List Float) → intervals (take n lo) (take n hi) ≡ take n (intervals lo hi)
+unfolding intervals
+intervals-take zero lo hi = refl
+intervals-take (suc n) [] hi = refl
+intervals-take (suc n) (a ∷ lo) [] = refl
+intervals-take (suc n) (a ∷ lo) (b ∷ hi) = ap (λ (r : List Interval). (a ‥ b) ∷ r) (intervals-take n lo hi)
+
+-- the first n of each
+pub first-length : (n : ℕ) (lo hi : List Float) → n ≤ length lo → length hi ≡ length lo → length (intervals (take n lo) (take n hi)) ≡ n
+first-length n lo hi h e =
+    let l = length-take-le n lo h in
+    intervals-length (take n lo) (take n hi) (length-take-le n hi (omega arith) ∙ sym l) ∙ l
+
+pub first-set : (n : ℕ) (lo hi : List Float) (j : ℕ) (a b : Float) → j < n → intervals (take n (set lo j a)) (take n (set hi j b)) ≡ set (intervals (take n lo) (take n hi)) j (a ‥ b)
+first-set n lo hi j a b h = rw (take-set-lt n lo j a h, take-set-lt n hi j b h) (intervals-set (take n lo) (take n hi) j a b)
+
+pub starting-more : (n : ℕ) (bounds : List Interval) → starting (suc n) bounds ≡ starting n bounds ++ getD bounds n missing ∷ []
+unfolding starting
+starting-more zero [] = refl
+starting-more zero (b ∷ bounds) = refl
+starting-more (suc n) [] = ap (λ (r : List Interval). missing ∷ r) (starting-more n [])
+starting-more (suc n) (b ∷ bounds) = ap (λ (r : List Interval). b ∷ r) (starting-more n bounds)
+
+pub starting-length : (n : ℕ) (bounds : List Interval) → length (starting n bounds) ≡ n
+unfolding starting
+starting-length zero bounds = refl
+starting-length (suc n) [] = ap suc (starting-length n [])
+starting-length (suc n) (b ∷ bounds) = ap suc (starting-length n bounds)

@@ -1,0 +1,36 @@
+-- Boxes: a list of intervals, one for each variable.
+use Prim.Native.Nat.{ℕ, zero, suc}
+use mathlib.Core.Bool.{Bool, false, _||_}
+use mathlib.Core.List.{List, [], _∷_}
+use lib.IntN.{negsuc}
+use lib.Ieee.{Float}
+use lib.ListN.{take}
+use Rattle.number.specs.Notation.{whole, integer}
+use Rattle.interval.specs.Interval.{_‥_, isEmpty}
+use Rattle.interval.specs.declared.Interval.{Interval}
+use Rattle.interval.specs.declared.Boxes.{Boxes}
+
+-- a variable beyond the list is [-10, 10]
+unfoldable pub missing : Interval
+missing = integer (negsuc 9) ‥ whole 10
+
+-- the boxes that narrowing of n variables starts from: the bounds, [-10, 10] for a missing one, a surplus one unused
+unfoldable pub starting : ℕ → List Interval → List Interval
+starting zero bounds = []
+starting (suc n) [] = missing ∷ starting n []
+starting (suc n) (b ∷ bounds) = b ∷ starting n bounds
+
+unfoldable pub anyEmpty : List Interval → Bool
+anyEmpty [] = false
+anyEmpty (i ∷ is) = isEmpty i || anyEmpty is
+
+-- ---- as the code holds them
+-- a list of lower and one of upper ends
+unfoldable pub intervals : List Float → List Float → List Interval
+intervals [] hs = []
+intervals (l ∷ ls) [] = []
+intervals (l ∷ ls) (h ∷ hs) = (l ‥ h) ∷ intervals ls hs
+
+-- the first `count` of each
+unfoldable pub boxesOf : Boxes → List Interval
+boxesOf b = intervals (take (b .count) (b .lo)) (take (b .count) (b .hi))

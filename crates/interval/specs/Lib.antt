@@ -1,0 +1,7 @@
+pub mod Interval
+pub mod Boxes
+pub mod BoxLaws
+pub mod Choices
+pub mod Inside
+pub mod Computing
+pub mod Examples

@@ -1,0 +1,185 @@
+// Intervals of two f64 (document 01, "Narrowing"), with the methods of interval.rs. They take any f64 and refuse nothing.
+ghost use mathlib.Core.Path.{_≡_};
+ghost use Prim.Native.Nat.{_≤_};
+ghost use lib.ListN.{length, getD};
+ghost use lib.Ieee.Scale.{finite};
+ghost use Rattle.interval.specs.Interval.{_‥_, isEmpty, width, midpoint, contains, split, intersect, hull, exp, hasLn, ln};
+ghost use Rattle.interval.specs.Boxes.{intervals, boxesOf, missing, starting, anyEmpty};
+
+pub struct Interval {
+    pub lo: f64,
+    pub hi: f64,
+}
+
+// The two halves of an interval.
+pub struct Halves {
+    pub lower: Interval,
+    pub upper: Interval,
+}
+
+fn is_finite(x: f64) -> bool
+    ensures { λ r. ⌜ r ≡ finite x ⌝ }
+{
+    (-1.0 / 0.0 < x) & (x < 1.0 / 0.0)
+}
+
+impl Interval {
+    pub fn new(lo: f64, hi: f64) -> Self
+        ensures { λ r. ⌜ r ≡ (lo ‥ hi) ⌝ }
+    {
+        Self { lo, hi }
+    }
+
+    pub fn point(v: f64) -> Self
+        ensures { λ r. ⌜ r ≡ (v ‥ v) ⌝ }
+    {
+        Self::new(v, v)
+    }
+
+    pub fn is_empty(self) -> bool
+        ensures { λ r. ⌜ r ≡ isEmpty self ⌝ }
+    {
+        (self.hi < self.lo) | (self.lo != self.lo) | (self.hi != self.hi)
+    }
+
+    pub fn width(self) -> f64
+        ensures { λ r. ⌜ r ≡ width self ⌝ }
+    {
+        self.hi - self.lo
+    }
+
+    pub fn midpoint(self) -> f64
+        ensures { λ r. ⌜ r ≡ midpoint self ⌝ }
+    {
+        (self.lo + self.hi) / 2.0
+    }
+
+    pub fn contains(self, x: f64) -> bool
+        ensures { λ r. ⌜ r ≡ contains self x ⌝ }
+    {
+        (x >= self.lo) & (x <= self.hi)
+    }
+
+    pub fn split(self) -> Halves
+        ensures { λ r. ⌜ r ≡ split self ⌝ }
+    {
+        let mid = self.midpoint();
+        Halves {
+            lower: Self::new(self.lo, mid),
+            upper: Self::new(mid, self.hi),
+        }
+    }
+
+    pub fn intersect(self, other: Interval) -> Self
+        ensures { λ r. ⌜ r ≡ intersect self other ⌝ }
+    {
+        Self::new(
+            number::max(self.lo, other.lo),
+            number::min(self.hi, other.hi),
+        )
+    }
+
+    pub fn hull(self, other: Interval) -> Self
+        ensures { λ r. ⌜ r ≡ hull self other ⌝ }
+    {
+        Self::new(
+            number::min(self.lo, other.lo),
+            number::max(self.hi, other.hi),
+        )
+    }
+
+    pub fn exp(self) -> Self
+        ensures { λ r. ⌜ r ≡ exp self ⌝ }
+    {
+        Self::new(maths::exp(self.lo), maths::exp(self.hi))
+    }
+
+    // Whether ln is real on it.
+    pub fn has_ln(self) -> bool
+        ensures { λ r. ⌜ r ≡ hasLn self ⌝ }
+    {
+        !((self.lo <= 0.0) | !is_finite(self.lo) | !is_finite(self.hi))
+    }
+
+    pub fn ln(self) -> Self
+        ensures { λ r. ⌜ r ≡ ln self ⌝ }
+    {
+        if self.has_ln() {
+            Self::new(maths::ln(self.lo), maths::ln(self.hi))
+        } else {
+            Self::new(1.0 / 0.0, -1.0 / 0.0)
+        }
+    }
+
+    // Where exp lies in it.
+    pub fn exp_inv(self) -> Self
+        ensures { λ r. ⌜ r ≡ ln self ⌝ }
+    {
+        self.ln()
+    }
+
+    // Where ln lies in it.
+    pub fn ln_inv(self) -> Self
+        ensures { λ r. ⌜ r ≡ exp self ⌝ }
+    {
+        self.exp()
+    }
+}
+
+// ---- boxes: an interval for each variable, in two lists of ends
+
+// The box of variable i; one beyond the list is [-10, 10].
+pub fn box_at(lo: &[f64], hi: &[f64], i: usize) -> Interval
+    requires { ⌜ length (now hi) ≡ length (now lo) ⌝ }
+    ensures { λ r. ⌜ r ≡ getD (intervals (now (lo .entry)) (now (hi .entry))) i missing ⌝ }
+{
+    if i < lo.len() {
+        return Interval::new(lo[i], hi[i]);
+    }
+    Interval::new(-10.0, 10.0)
+}
+
+// A list of at most 16 boxes by value (IntervalDomain of interval.rs): the first `count` ends of each kind.
+pub struct Boxes {
+    pub lo: [f64; 16],
+    pub hi: [f64; 16],
+    pub count: usize,
+}
+
+impl Boxes {
+    // The first n of the bounds, a missing one being [-10, 10].
+    pub fn new(lo: &[f64], hi: &[f64], n: usize) -> Boxes
+        requires { ⌜ (length (now hi) ≡ length (now lo)) × (n ≤ 16) ⌝ }
+        ensures { λ r. ⌜ (r .count ≡ n) × (boxesOf r ≡ starting n (intervals (now (lo .entry)) (now (hi .entry)))) ⌝ }
+    {
+        let mut out = Boxes {
+            lo: [0.0; 16],
+            hi: [0.0; 16],
+            count: n,
+        };
+        let mut i: usize = 0;
+        while i < n {
+            let v = box_at(lo, hi, i);
+            out.lo[i] = v.lo;
+            out.hi[i] = v.hi;
+            i += 1;
+        }
+        out
+    }
+
+    pub fn is_empty(self) -> bool
+        requires { ⌜ self .count ≤ 16 ⌝ }
+        ensures { λ r. ⌜ r ≡ anyEmpty (boxesOf self) ⌝ }
+    {
+        let n = self.count;
+        let mut i: usize = 0;
+        while i < n {
+            let v = Interval::new(self.lo[i], self.hi[i]);
+            if v.is_empty() {
+                return true;
+            }
+            i += 1;
+        }
+        false
+    }
+}

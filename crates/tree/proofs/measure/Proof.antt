@@ -1,0 +1,34 @@
+-- `tree::measure` meets its contract: an Eml goes by its children's, any other node is 1 and 1. Assumes nothing.
+use mathlib.Core.Path.{sym, ap, _∙_, subst}
+use borrow.Author.Needs.{needs}
+use denote.Ref.{now}
+use Rattle.tree.specs.Code.{Known, sizeBy, depthBy}
+use Rattle.tree.specs.declared.Node.{Node}
+use Rattle.tree.proofs.measure.Statement.{statement}
+use Rattle.tree.proofs.measure.Tie as tie
+
+measure-eml-requires : tie.Need-measure-eml-requires
+measure-eml-requires c κs =
+    let at3 = c .before .before .before in
+    subst (λ (m : Node). Known m (now (at3 .args .size)) (now (at3 .args .depth))) (c .before .node .given .1) (at3 .pre)
+
+returns : tie.Need-returns
+returns c =
+    let at2 = c .before .before in
+    let at4 = at2 .before .before in
+    let e = sym (at2 .node .given .1) in
+    (c .measure-eml .ensures .0 ∙ ap (λ (m : Node). sizeBy m (now (at4 .args .size))) e, c .measure-eml .ensures .1 ∙ ap (λ (m : Node). depthBy m (now (at4 .args .depth))) e)
+
+pub measure-spec : {M : Type 1} → statement M
+measure-spec =
+    tie.close
+    (tie.spec
+    (λ c. search needs)
+    measure-eml-requires
+    (λ c. search needs)
+    (λ c. search needs)
+    (λ c. search needs)
+    returns
+    (λ c. search needs)
+    (λ c. search needs)
+    (λ c. search needs))

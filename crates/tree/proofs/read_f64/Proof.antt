@@ -1,0 +1,14 @@
+-- `tree::read_f64` meets its contract. Assumes nothing.
+use mathlib.Core.Path.{_∙_, ap}
+use borrow.Author.Needs.{needs}
+use lib.Ieee.{binary64, ofBits}
+use Rattle.tree.specs.Bytes.{f64At}
+use Rattle.tree.proofs.read_f64.Statement.{statement}
+use Rattle.tree.proofs.read_f64.Tie as tie
+
+returns : tie.Need-returns
+unfolding f64At
+returns c = c .of-bits .ensures ∙ ap (ofBits binary64) (c .before .read-u64 .ensures)
+
+pub read-f64-spec : {M : Type 1} → statement M
+read-f64-spec = tie.close (tie.spec (λ c κs. search needs) (λ c κs. search needs) returns)

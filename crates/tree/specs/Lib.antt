@@ -1,0 +1,14 @@
+pub mod Bytes
+pub mod Refusal
+pub mod RefusalLaws
+pub mod Tree
+pub mod Nodes
+pub mod NodeLaws
+pub mod Frame
+pub mod Code
+pub mod Canonical
+pub mod Writing
+pub mod CanonicalLaws
+pub mod Fingerprint
+pub mod Computing
+pub mod Examples

@@ -1,0 +1,142 @@
+//! Canonical against the Rust's trees.
+
+use reference::canonical::Canonical;
+use reference::compare::Tally;
+use reference::generate::{self, Shape};
+use reference::house;
+use reference::port;
+use reference::splitmix::SplitMix64;
+use reference::tree::{EmlNode, EmlTree};
+
+/// The expanded size and depth of a tree, as document 01 counts them.
+fn extent(node: &EmlNode) -> (usize, usize) {
+    match node {
+        EmlNode::Eml { left, right } => {
+            let ((ls, ld), (rs, rd)) = (extent(left), extent(right));
+            (1 + ls + rs, 1 + ld.max(rd))
+        }
+        _ => (1, 1),
+    }
+}
+
+/// A node list with free places after it, sometimes damaged, with two operands that sometimes name no node.
+struct List {
+    bytes: Vec<u8>,
+    count: usize,
+    x: usize,
+    y: usize,
+}
+
+fn any_list(rng: &mut SplitMix64) -> List {
+    let shape = match rng.below(4) {
+        0 => Shape::large(rng),
+        1 => Shape::medium(rng),
+        _ => Shape::small(rng),
+    };
+    let parts = generate::problem(rng, &shape);
+    let mut bytes = house::node_bytes(&parts.nodes);
+    if rng.one_in(4) {
+        generate::damage_nodes(rng, &mut bytes);
+    }
+    let mut count = bytes.len() / 16;
+    let free = rng.below(12) * 16 + if rng.one_in(8) { rng.below(16) } else { 0 };
+    bytes.extend((0..free).map(|_| rng.draw() as u8));
+    if rng.one_in(10) {
+        count = rng.pick(&[
+            0,
+            count.saturating_sub(1),
+            count + 1,
+            1024,
+            1025,
+            usize::MAX,
+        ]);
+    }
+    let operand = |rng: &mut SplitMix64| {
+        let far = rng.pick(&[count, count.wrapping_add(1), 1 << 32, usize::MAX]);
+        if rng.one_in(12) || count == 0 {
+            far
+        } else {
+            rng.below(count.min(2000))
+        }
+    };
+    let (x, y) = (operand(rng), operand(rng));
+    List { bytes, count, x, y }
+}
+
+/// Document 01's refusal of an append, from the trees that the Rust would make.
+fn append_refusal(
+    list: &List,
+    operands: &[usize],
+    made: impl Fn(&[EmlTree]) -> EmlTree,
+    more: usize,
+) -> u8 {
+    let places = list.bytes.len() / 16;
+    if list.count > 1024 || list.count > places {
+        return 2;
+    }
+    let trees = match house::read_nodes(&list.bytes[..16 * list.count]) {
+        Err(number) => return number,
+        Ok(trees) => trees,
+    };
+    if operands.iter().any(|&k| k >= list.count) {
+        return 3;
+    }
+    let (size, depth) = extent(&made(&trees).root);
+    if size > 4096 || depth > 128 {
+        return 4;
+    }
+    if places.min(1024) - list.count < more {
+        return 10;
+    }
+    0
+}
+
+/// The list at exit: the older nodes and the bytes past the appended ones stay, and the last node has the Rust's tree.
+fn check_appended(list: &List, after: &[u8], more: usize, made: impl Fn(&[EmlTree]) -> EmlTree) {
+    let (start, end) = (16 * list.count, 16 * (list.count + more));
+    assert_eq!(after[..start], list.bytes[..start]);
+    assert_eq!(after[end..], list.bytes[end..]);
+    let trees = house::read_nodes(&after[..end]).expect("the appended list is sound");
+    assert_eq!(trees[list.count + more - 1], made(&trees));
+}
+
+#[test]
+fn canonical() {
+    let mut rng = SplitMix64::new(34);
+    let mut lns = Tally::new("Canonical::ln");
+    let mut subs = Tally::new("Canonical::sub");
+    for _ in 0..60_000 {
+        let list = any_list(&mut rng);
+        let (x, y, count) = (list.x, list.y, list.count);
+
+        let made = |trees: &[EmlTree]| Canonical::ln(&trees[x]);
+        let mut after = list.bytes.clone();
+        let ours = port::canonical_ln(&mut after, count, x);
+        let number = append_refusal(&list, &[x], made, 4);
+        match ours {
+            Err(_) => assert_eq!(after, list.bytes),
+            Ok(at) => {
+                assert_eq!(at, count + 3);
+                check_appended(&list, &after, 4, made);
+            }
+        }
+        assert_eq!(ours.err().unwrap_or(0), number);
+        lns.add(number);
+
+        let made = |trees: &[EmlTree]| Canonical::sub(&trees[x], &trees[y]);
+        let mut after = list.bytes.clone();
+        let ours = port::canonical_sub(&mut after, count, x, y);
+        let number = append_refusal(&list, &[x, y], made, 7);
+        match ours {
+            Err(_) => assert_eq!(after, list.bytes),
+            Ok(at) => {
+                assert_eq!(at, count + 6);
+                check_appended(&list, &after, 7, made);
+            }
+        }
+        assert_eq!(ours.err().unwrap_or(0), number);
+        subs.add(number);
+    }
+    lns.done(&[0, 2, 3, 4, 10], 100);
+    subs.done(&[0, 2, 3, 4, 10], 100);
+}
