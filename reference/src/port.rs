@@ -25,6 +25,42 @@ mod raw {
             x: usize,
             y: usize,
         ) -> u8;
+        pub fn eml_lt(
+            nodes: *mut u8,
+            length: usize,
+            count: usize,
+            x: usize,
+            y: usize,
+            out: *mut u8,
+            room: usize,
+        ) -> u8;
+        pub fn eml_le(
+            nodes: *mut u8,
+            length: usize,
+            count: usize,
+            x: usize,
+            y: usize,
+            out: *mut u8,
+            room: usize,
+        ) -> u8;
+        pub fn eml_gt(
+            nodes: *mut u8,
+            length: usize,
+            count: usize,
+            x: usize,
+            y: usize,
+            out: *mut u8,
+            room: usize,
+        ) -> u8;
+        pub fn eml_ge(
+            nodes: *mut u8,
+            length: usize,
+            count: usize,
+            x: usize,
+            y: usize,
+            out: *mut u8,
+            room: usize,
+        ) -> u8;
         pub fn eml_interval_is_empty(lo: f64, hi: f64) -> bool;
         pub fn eml_interval_width(lo: f64, hi: f64) -> f64;
         pub fn eml_interval_midpoint(lo: f64, hi: f64) -> f64;
@@ -116,6 +152,28 @@ pub fn canonical_sub(nodes: &mut [u8], count: usize, x: usize, y: usize) -> Resu
     let number = unsafe { raw::eml_canonical_sub(list, length, count, x, y) };
     refused_unless_zero(number, count.wrapping_add(6))
 }
+
+/// A comparison: appends as `canonical_sub` does and writes the atom's record.
+macro_rules! comparison {
+    ($name:ident, $raw:ident) => {
+        pub fn $name(
+            nodes: &mut [u8],
+            count: usize,
+            x: usize,
+            y: usize,
+            record: &mut [u8],
+        ) -> Refusal {
+            let (list, length) = (nodes.as_mut_ptr(), nodes.len());
+            let (out, room) = (record.as_mut_ptr(), record.len());
+            unsafe { raw::$raw(list, length, count, x, y, out, room) }
+        }
+    };
+}
+
+comparison!(lt, eml_lt);
+comparison!(le, eml_le);
+comparison!(gt, eml_gt);
+comparison!(ge, eml_ge);
 
 call!(interval_is_empty, eml_interval_is_empty, (lo: f64, hi: f64) -> bool);
 call!(interval_width, eml_interval_width, (lo: f64, hi: f64) -> f64);

@@ -1,10 +1,11 @@
-//! Canonical against the Rust's trees.
+//! Canonical and the comparisons against the Rust's trees.
 
 use reference::canonical::Canonical;
 use reference::compare::Tally;
 use reference::generate::{self, Shape};
-use reference::house;
+use reference::house::{self, Record};
 use reference::port;
+use reference::smt::constraint::EmlConstraint;
 use reference::splitmix::SplitMix64;
 use reference::tree::{EmlNode, EmlTree};
 
@@ -139,4 +140,61 @@ fn canonical() {
     }
     lns.done(&[0, 2, 3, 4, 10], 100);
     subs.done(&[0, 2, 3, 4, 10], 100);
+}
+
+type Compare = fn(&mut [u8], usize, usize, usize, &mut [u8]) -> u8;
+type Atom = fn(EmlTree, EmlTree) -> EmlConstraint;
+
+#[test]
+fn comparisons() {
+    let calls: [(Compare, Atom); 4] = [
+        (port::lt, EmlConstraint::lt),
+        (port::le, EmlConstraint::le),
+        (port::gt, EmlConstraint::gt),
+        (port::ge, EmlConstraint::ge),
+    ];
+    let mut rng = SplitMix64::new(35);
+    let mut tally = Tally::new("lt, le, gt, ge");
+    for _ in 0..60_000 {
+        let list = any_list(&mut rng);
+        let (x, y, count) = (list.x, list.y, list.count);
+        let (ours, theirs) = rng.pick(&calls);
+        let room = if rng.one_in(6) {
+            rng.below(24)
+        } else {
+            24 + rng.below(9)
+        };
+        let before: Vec<u8> = (0..room).map(|_| rng.draw() as u8).collect();
+        let (mut after, mut record) = (list.bytes.clone(), before.clone());
+        let number = ours(&mut after, count, x, y, &mut record);
+        let made = |trees: &[EmlTree]| Canonical::sub(&trees[x], &trees[y]);
+        let expected = match append_refusal(&list, &[x, y], made, 7) {
+            0 if room < 24 => 10,
+            other => other,
+        };
+        assert_eq!(number, expected);
+        if number == 0 {
+            check_appended(&list, &after, 7, made);
+            let trees = house::read_nodes(&after[..16 * (count + 7)]).expect("sound");
+            let atom = theirs(trees[x].clone(), trees[y].clone());
+            let read = house::read_records(&after[..16 * (count + 7)], &record[..24]);
+            let ours = read
+                .expect("the record is an atom on the result")
+                .constraint;
+            assert_eq!(
+                house::print_of_constraint(&ours),
+                house::print_of_constraint(&atom)
+            );
+            let kind = record[0];
+            assert_eq!(
+                record[..24],
+                house::constraint_bytes(&[Record::new(kind, count + 6)])
+            );
+            assert_eq!(record[24..], before[24..]);
+        } else {
+            assert_eq!((&after, &record), (&list.bytes, &before));
+        }
+        tally.add(number);
+    }
+    tally.done(&[0, 2, 3, 4, 10], 100);
 }

@@ -3,6 +3,7 @@ use Prim.Native.Nat.{ℕ}
 use mathlib.Core.List.{List}
 use Rattle.tree.specs.declared.Appended.{Appended}
 use Rattle.tree.specs.Canonical.{Outcome, _leaving_}
+use Rattle.constraint.specs.Comparison.{Compared, _leaving_and_}
 
 -- ---- Canonical: the number, and the list at exit
 pub record Listed : Type 0 where
@@ -18,3 +19,15 @@ numberOf (Appended.Refused r) = r
 
 abbrev pub appended : Outcome → Listed
 appended (answer leaving b) = listed (numberOf answer) b
+
+-- ---- the comparisons: the number, the list and the output at exit
+pub record Recorded : Type 0 where
+  pub number : ℕ
+  pub nodes : List ℕ
+  pub out : List ℕ
+
+abbrev pub recorded : ℕ → List ℕ → List ℕ → Recorded
+recorded r b o = record { number = r; nodes = b; out = o }
+
+abbrev pub comparison : Compared → Recorded
+comparison (answer leaving b and o) = recorded (numberOf answer) b o

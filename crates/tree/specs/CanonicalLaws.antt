@@ -1,9 +1,8 @@
 -- What `ln` and `sub` append is the Rust's tree, on a list whose older trees stay. Assumes nothing.
-use Prim.Native.Nat.{ℕ, zero, suc, _+_, _*_, _/_, _%_, _^_, _≤_, _<_}
+use Prim.Native.Nat.{ℕ, zero, suc, _+_, _*_, _≤_, _<_}
 use mathlib.Core.Path.{_≡_, refl, sym, ap, ap₂, _∙_, subst, subst₂}
 use mathlib.Core.Bool.{Bool, true, _&&_}
 use mathlib.Core.List.{List}
-use native.Mathlib.Nat.{div-div-eq-div-mul}
 use native.Mathlib.Omega.{arith}
 use borrow.Author.Count.{below-more}
 use borrow.Author.Tests.{ltb-true, lt-ltb, le-leb}
@@ -17,7 +16,7 @@ use Rattle.tree.specs.Nodes.{nodeAt, isNode, treeAt, nodeRefusal, nodesF
 use Rattle.tree.specs.Bytes.{u32At, u32Bytes}
 use Rattle.number.specs.Notation.{if_then_else_}
 use Rattle.tree.specs.Frame.{word-same, tree-same, valid-same}
-use Rattle.tree.specs.Writing.{written, sets-before}
+use Rattle.tree.specs.Writing.{u32-read, written, sets-before}
 use Rattle.tree.specs.declared.Node.{Node}
 use Rattle.tree.specs.NodeLaws.{fit-parts, list-valid, small-parts, tree-one, tree-eml}
 use Rattle.tree.specs.Canonical.{lnTree, subTree, lnNodes, subNodes, nodeBytes, nodesBytes, appendRefusal, lnRefusal, subRefusal, _leaving_, append, ln, sub}
@@ -51,14 +50,6 @@ sub-accepted b n x y e =
     (ltb-true x n (v .0), ltb-true y n (v .1), w .1)
 
 -- ---- a record that was written is read as its node, and passes
-digit : (n : ℕ) → n % 256 + 256 * (n / 256) ≡ n
-digit n = omega arith
-
-word-read : (n : ℕ) → n < 2 ^ 32 → n % 256 + 256 * (n / 256 % 256 + 256 * (n / 65536 % 256 + 256 * (n / 16777216 % 256))) ≡ n
-word-read n h =
-    let last : n / 16777216 % 256 ≡ n / 16777216 = omega arith in
-    rw (last, ← div-div-eq-div-mul n 65536 256, digit (n / 65536), ← div-div-eq-div-mul n 256 256, digit (n / 256), digit n)
-
 -- record k of c is x's
 abbrev Has : List ℕ → ℕ → Node → Type 0
 Has c k x = (o : ℕ) → o < 16 → getD c (16 * k + o) 0 ≡ getD (nodeBytes x) (16 * 0 + o) 0
@@ -92,10 +83,10 @@ module _ (c : List ℕ) (k l r : ℕ) (same : Has c k (Node.Eml l r)) (p : l < k
       kind = unfold nodeBytes u32Bytes u32At in has-word c k (Node.Eml l r) same 0 (16 * k) (omega arith) (omega arith)
 
       left : u32At c (16 * k + 4) ≡ l
-      left = unfold nodeBytes u32Bytes u32At in has-word c k (Node.Eml l r) same 4 (16 * k + 4) (omega arith) refl ∙ word-read l (omega arith)
+      left = unfold nodeBytes u32Bytes u32At in has-word c k (Node.Eml l r) same 4 (16 * k + 4) (omega arith) refl ∙ u32-read l (omega arith)
 
       right : u32At c (16 * k + 8) ≡ r
-      right = unfold nodeBytes u32Bytes u32At in has-word c k (Node.Eml l r) same 8 (16 * k + 8) (omega arith) refl ∙ word-read r (omega arith)
+      right = unfold nodeBytes u32Bytes u32At in has-word c k (Node.Eml l r) same 8 (16 * k + 8) (omega arith) refl ∙ u32-read r (omega arith)
 
       last : u32At c (16 * k + 12) ≡ 0
       last = unfold nodeBytes u32Bytes u32At in has-word c k (Node.Eml l r) same 12 (16 * k + 12) (omega arith) refl

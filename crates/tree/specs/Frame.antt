@@ -2,6 +2,7 @@
 use Prim.Native.Nat.{ℕ, zero, suc, _+_, _*_, _^_, _≤_, _<_}
 use mathlib.Core.Path.{_≡_, refl, sym, ap, ap₂, _∙_}
 use mathlib.Core.List.{List, [], _∷_, _++_}
+use native.Mathlib.Nat.{add-zero}
 use native.Mathlib.Omega.{arith}
 use lib.Ieee.{binary64, ofBits}
 use lib.ListN.{length, getD}
@@ -10,19 +11,20 @@ use Rattle.tree.specs.Tree.{Tree}
 use Rattle.tree.specs.Nodes.{nodeAt, isNode, treeOf, trees, treeAt, nodeRefusal, Valid}
 use Rattle.tree.specs.declared.Node.{Node}
 
+pub u32-same : (b c : List ℕ) (i j : ℕ) → ((o : ℕ) → o < 4 → getD b (i + o) 0 ≡ getD c (j + o) 0) → u32At b i ≡ u32At c j
+unfolding u32At
+u32-same b c i j same =
+    let w = ap (λ (m : ℕ). getD b m 0) (sym (add-zero i)) ∙ same 0 (omega arith) ∙ ap (λ (m : ℕ). getD c m 0) (add-zero j) in
+    let x = same 1 (omega arith) in
+    let y = same 2 (omega arith) in
+    let z = same 3 (omega arith) in
+    omega arith
+
 -- record k of b is record l of c
 module _ (b c : List ℕ) (k l : ℕ) (same : (o : ℕ) → o < 16 → getD b (16 * k + o) 0 ≡ getD c (16 * l + o) 0) where
-  byte-same : (o i j : ℕ) → o < 16 → i ≡ 16 * k + o → j ≡ 16 * l + o → getD b i 0 ≡ getD c j 0
-  byte-same o i j h p q = ap (λ (m : ℕ). getD b m 0) p ∙ same o h ∙ sym (ap (λ (m : ℕ). getD c m 0) q)
-
   pub word-same : (o i j : ℕ) → o + 4 ≤ 16 → i ≡ 16 * k + o → j ≡ 16 * l + o → u32At b i ≡ u32At c j
-  unfolding u32At
   word-same o i j h p q =
-      let w = byte-same o i j (omega arith) p q in
-      let x = byte-same (o + 1) (i + 1) (j + 1) (omega arith) (omega arith) (omega arith) in
-      let y = byte-same (o + 2) (i + 2) (j + 2) (omega arith) (omega arith) (omega arith) in
-      let z = byte-same (o + 3) (i + 3) (j + 3) (omega arith) (omega arith) (omega arith) in
-      omega arith
+      u32-same b c i j (λ u l. ap (λ (m : ℕ). getD b m 0) (omega arith) ∙ same (o + u) (omega arith) ∙ ap (λ (m : ℕ). getD c m 0) (omega arith))
 
   kind-same : u32At b (16 * k) ≡ u32At c (16 * l)
   kind-same = word-same 0 (16 * k) (16 * l) (omega arith) (omega arith) (omega arith)

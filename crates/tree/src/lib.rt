@@ -24,7 +24,7 @@ pub enum Node {
 
 // ---- little-endian numbers
 
-fn wide(x: u8) -> u32
+pub fn wide(x: u8) -> u32
     ensures { λ r. ⌜ (r ≡ x) × (r < 256) ⌝ }
 {
     x as u32
@@ -113,11 +113,11 @@ pub fn node_in(nodes: &[u8], k: usize) -> Node
 
 // The expanded size and the depth of a node's tree.
 struct Sized {
-    size: u32,
-    depth: u32,
+    size: usize,
+    depth: usize,
 }
 
-fn larger(x: u32, y: u32) -> u32
+pub fn larger(x: usize, y: usize) -> usize
     ensures { λ r. ⌜ r ≡ max x y ⌝ }
 {
     if x < y {
@@ -126,7 +126,7 @@ fn larger(x: u32, y: u32) -> u32
     x
 }
 
-fn measure_eml(l: usize, r: usize, size: &[u32; 1024], depth: &[u32; 1024]) -> Sized
+fn measure_eml(l: usize, r: usize, size: &[usize; 1024], depth: &[usize; 1024]) -> Sized
     requires { ⌜ KnownBoth l r (now size) (now depth) ⌝ }
     ensures { λ x. ⌜ (x .size ≡ 1 + getD (now (size .entry)) l 0 + getD (now (size .entry)) r 0) × (x .depth ≡ 1 + max (getD (now (depth .entry)) l 0) (getD (now (depth .entry)) r 0)) ⌝ }
 {
@@ -137,7 +137,7 @@ fn measure_eml(l: usize, r: usize, size: &[u32; 1024], depth: &[u32; 1024]) -> S
 }
 
 // A node's, by those of the nodes before it.
-fn measure(node: Node, size: &[u32; 1024], depth: &[u32; 1024]) -> Sized
+fn measure(node: Node, size: &[usize; 1024], depth: &[usize; 1024]) -> Sized
     requires { ⌜ Known node (now size) (now depth) ⌝ }
     ensures { λ r. ⌜ (r .size ≡ sizeBy node (now (size .entry))) × (r .depth ≡ depthBy node (now (depth .entry))) ⌝ }
 {
@@ -150,7 +150,7 @@ fn measure(node: Node, size: &[u32; 1024], depth: &[u32; 1024]) -> Sized
 }
 
 // Each of count nodes: 3, then 4. The sizes and depths of those that pass are left in the two arrays.
-fn test_nodes(nodes: &[u8], count: usize, size: &mut [u32; 1024], depth: &mut [u32; 1024]) -> u8
+fn test_nodes(nodes: &[u8], count: usize, size: &mut [usize; 1024], depth: &mut [usize; 1024]) -> u8
     requires { ⌜ (count ≤ 1024) × (16 * count ≤ length (now nodes)) × (length (now size) ≡ 1024) × (length (now depth) ≡ 1024) ⌝ }
     ensures { λ r. ⌜ r ≡ nodesRefusal (now (nodes .entry)) count ⌝ }
     ensures { λ _. ⌜ now (size .exit) ≡ filled (sizeAt (now (nodes .entry))) (passing (nodeRefusal (now (nodes .entry))) count) (now (size .entry)) ⌝ }
@@ -190,8 +190,8 @@ pub fn test_list(nodes: &[u8], count: usize) -> u8
     ensures { λ r. ⌜ r ≡ listRefusal (now (nodes .entry)) count ⌝ }
 {
     if nodes_fit(nodes.len(), count) {
-        let mut size = [0u32; 1024];
-        let mut depth = [0u32; 1024];
+        let mut size = [0usize; 1024];
+        let mut depth = [0usize; 1024];
         return test_nodes(nodes, count, &mut size, &mut depth);
     }
     2
@@ -211,7 +211,7 @@ pub fn num_vars(nodes: &[u8], k: usize) -> usize
         Node::Eml(l, r) => {
             let left = num_vars(nodes, l);
             let right = num_vars(nodes, r);
-            if left < right { right } else { left }
+            larger(left, right)
         }
     }
 }
@@ -274,8 +274,8 @@ fn measure_operands(nodes: &[u8], count: usize, x: usize, y: usize) -> Operands
             y: none,
         };
     }
-    let mut size = [0u32; 1024];
-    let mut depth = [0u32; 1024];
+    let mut size = [0usize; 1024];
+    let mut depth = [0usize; 1024];
     let r = test_nodes(nodes, count, &mut size, &mut depth);
     if r != 0 {
         return Operands {

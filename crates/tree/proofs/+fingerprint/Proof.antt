@@ -36,52 +36,45 @@ fingerprint-node-in-requires t c κs = record-there _ _ (c .before .pre .1)
 
 fingerprint-cast-mix : (t : ℕ) → fingerprint-lts.Need-cast-mix (fingerprint-calls t) (fingerprint-at t) reads.Post
 fingerprint-cast-mix t c =
-    let s = c .before .before .before .before .before in
+    let at5 = c .before .before .before .before .before in
+    let s = at5 in
     omega (arith, index-small _ _ (s .pre .1) _ (omega arith) _ (sym (c .before .before .before .node-in .ensures) ∙ c .before .i .given .1))
 
 fingerprint-fingerprint-requires : (t : ℕ) → fingerprint-lts.Need-fingerprint-requires (fingerprint-calls t) (fingerprint-at t) reads.Post
 fingerprint-fingerprint-requires t c κs =
-    let at3 = c .before .before .before in
-    let at5 = at3 .before .before in
-    at-left _ _ (at5 .pre .1) _ _ (sym (at3 .node-in .ensures) ∙ c .before .l .given .1) _ (at5 .pre .0)
+    let at5 = c .before .before .before .before .before in
+    at-left _ _ (at5 .pre .1) _ _ (sym (c .before .before .before .node-in .ensures) ∙ c .before .l .given .1) _ (at5 .pre .0)
 
 fingerprint-fingerprint-requires-2 : (t : ℕ) → fingerprint-lts.Need-fingerprint-requires-2 (fingerprint-calls t) (fingerprint-at t) reads.Post
 fingerprint-fingerprint-requires-2 t c κs =
-    let at3 = c .before .before .before in
-    let at5 = at3 .before .before in
+    let at5 = c .before .before .before .before .before in
     let at7 = at5 .before .before in
-    at-right _ _ (at7 .pre .1) _ _ (sym (at5 .node-in .ensures) ∙ at3 .l .given .1) _ (at7 .pre .0)
+    at-right _ _ (at7 .pre .1) _ _ (sym (at5 .node-in .ensures) ∙ c .before .before .before .l .given .1) _ (at7 .pre .0)
 
 fingerprint-returns : (t : ℕ) → fingerprint-lts.Need-returns (fingerprint-calls t) (fingerprint-at t) reads.Post
 unfolding fingerprint
 fingerprint-returns t c =
-    let at3 = c .before .before .before in
-    c .mix .ensures ∙ sym (ap fingerprint (tree-one _ _ (sym (at3 .node-in .ensures) ∙ c .before .enum-told .given .1)))
+    c .mix .ensures ∙ sym (ap fingerprint (tree-one _ _ (sym (c .before .before .before .node-in .ensures) ∙ c .before .enum-told .given .1)))
 
 fingerprint-returns-2 : (t : ℕ) → fingerprint-lts.Need-returns-2 (fingerprint-calls t) (fingerprint-at t) reads.Post
 unfolding fingerprint
 fingerprint-returns-2 t c =
-    let at3 = c .before .before .before in
-    let at5 = at3 .before .before in
-    c .mix2 .ensures ∙ simp (c .before .mix-f64 .ensures, tree-const _ _ _ (sym (at5 .node-in .ensures) ∙ at3 .v .given .1))
+    let at5 = c .before .before .before .before .before in
+    c .mix2 .ensures ∙ simp (c .before .mix-f64 .ensures, tree-const _ _ _ (sym (at5 .node-in .ensures) ∙ c .before .before .before .v .given .1))
 
 fingerprint-returns-3 : (t : ℕ) → fingerprint-lts.Need-returns-3 (fingerprint-calls t) (fingerprint-at t) reads.Post
 unfolding fingerprint
 fingerprint-returns-3 t c =
-    let at2 = c .before .before in
-    let at4 = at2 .before .before in
-    c .mix3 .ensures ∙ sym (ap fingerprint (tree-var _ _ _ (sym (at4 .node-in .ensures) ∙ at2 .i .given .1)))
+    let at4 = c .before .before .before .before in
+    c .mix3 .ensures ∙ sym (ap fingerprint (tree-var _ _ _ (sym (at4 .node-in .ensures) ∙ c .before .before .i .given .1)))
 
 fingerprint-returns-4 : (t : ℕ) → fingerprint-lts.Need-returns-4 (fingerprint-calls t) (fingerprint-at t) reads.Post
 unfolding fingerprint
 fingerprint-returns-4 t c =
-    let at2 = c .before .before in
-    let at3 = at2 .before in
-    let at5 = at3 .before .before in
-    let at7 = at5 .before .before in
-    let at9 = at7 .before .before in
+    let at5 = c .before .before .before .before .before in
+    let at9 = at5 .before .before .before .before in
     c .mix5 .ensures
-    ∙ simp (at2 .mix4 .ensures, at3 .fingerprint .ensures, c .before .fingerprint2 .ensures, tree-is _ _ (at9 .pre .1) _ _ (sym (at7 .node-in .ensures) ∙ at5 .l .given .1))
+    ∙ simp (c .before .before .mix4 .ensures, c .before .before .before .fingerprint .ensures, c .before .fingerprint2 .ensures, tree-is _ _ (at9 .pre .1) _ _ (sym (at5 .before .before .node-in .ensures) ∙ at5 .l .given .1))
 
 pub +fingerprint-spec : {M : Type 1} → statement M
 +fingerprint-spec = close μ-fingerprint λ t. fingerprint-lts.spec (fingerprint-calls t) (fingerprint-at t) reads.Post

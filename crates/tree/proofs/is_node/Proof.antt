@@ -11,34 +11,26 @@ use Rattle.tree.proofs.is_node.Tie as tie
 returns : tie.Need-returns
 unfolding isNode if_then_else_
 returns c =
-    let at2 = c .before .before in
-    let at3 = at2 .before in
-    let at4 = at3 .before in
-    simp (sym (at4 .read-u32 .ensures) ∙ c .match .keys1, at3 .read-u322 .ensures, at2 .read-u323 .ensures, c .before .read-u324 .ensures)
+    let at4 = c .before .before .before .before in
+    simp (sym (at4 .read-u32 .ensures) ∙ c .match .keys1, c .before .before .before .read-u322 .ensures, c .before .before .read-u323 .ensures, c .before .read-u324 .ensures)
 
 returns-2 : tie.Need-returns-2
 unfolding isNode if_then_else_ f64At
 returns-2 c =
-    let at2 = c .before .before in
-    let at5 = at2 .before .before .before in
-    let at6 = at5 .before in
-    simp (sym (at6 .read-u32 .ensures) ∙ at2 .match .keys2, at5 .read-u322 .ensures, c .is-finite .ensures, c .before .read-u64 .ensures)
+    let at5 = c .before .before .before .before .before in
+    simp (sym (at5 .before .read-u32 .ensures) ∙ c .before .before .match .keys2, at5 .read-u322 .ensures, c .is-finite .ensures, c .before .read-u64 .ensures)
 
 returns-3 : tie.Need-returns-3
 unfolding isNode if_then_else_
 returns-3 c =
-    let at2 = c .before .before in
-    let at3 = at2 .before in
-    let at4 = at3 .before in
-    simp (sym (at4 .read-u32 .ensures) ∙ c .match .keys3, at3 .read-u322 .ensures, at2 .read-u323 .ensures, c .before .read-u324 .ensures)
+    let at4 = c .before .before .before .before in
+    simp (sym (at4 .read-u32 .ensures) ∙ c .match .keys3, c .before .before .before .read-u322 .ensures, c .before .before .read-u323 .ensures, c .before .read-u324 .ensures)
 
 returns-4 : tie.Need-returns-4
 unfolding isNode if_then_else_
 returns-4 c =
-    let at2 = c .before .before in
-    let at3 = at2 .before in
-    let at4 = at3 .before in
-    simp (sym (at4 .read-u32 .ensures) ∙ c .match .keys4, at3 .read-u322 .ensures, at2 .read-u323 .ensures, c .before .read-u324 .ensures)
+    let at4 = c .before .before .before .before in
+    simp (sym (at4 .read-u32 .ensures) ∙ c .match .keys4, c .before .before .before .read-u322 .ensures, c .before .before .read-u323 .ensures, c .before .read-u324 .ensures)
 
 returns-5 : tie.Need-returns-5
 unfolding isNode if_then_else_

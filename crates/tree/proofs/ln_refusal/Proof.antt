@@ -9,17 +9,16 @@ use Rattle.tree.proofs.ln_refusal.Tie as tie
 returns : tie.Need-returns
 returns c = ln-early _ _ _ _ (c .before .before .measure-operands .ensures .0) (c .if1 .taken)
 
-add-t8 : tie.Need-add-t8
-add-t8 c = let m = c .before .before .before .before .measure-operands .ensures .1 (c .before .before .if1 .left) .0 in omega arith
+add-result-refusal : tie.Need-add-result-refusal
+add-result-refusal c = let m = c .before .before .before .before .measure-operands .ensures .1 (c .before .before .if1 .left) .0 in omega arith
 
 add-t9 : tie.Need-add-t9
 add-t9 c = let m = c .before .before .before .before .before .measure-operands .ensures .1 (c .before .before .before .if1 .left) .0 in omega arith
 
 result-refusal-requires : tie.Need-result-refusal-requires
 result-refusal-requires c κs =
-    let at3 = c .before .before .before in
-    let at5 = at3 .before .before in
-    let v = operands-known _ _ _ _ (sym (at5 .measure-operands .ensures .0) ∙ at3 .if1 .left) in
+    let at5 = c .before .before .before .before .before in
+    let v = operands-known _ _ _ _ (sym (at5 .measure-operands .ensures .0) ∙ c .before .before .before .if1 .left) in
     (v .0 .few, omega arith)
 
 returns-2 : tie.Need-returns-2
@@ -32,4 +31,4 @@ returns-2 c =
 pub ln-refusal-spec : {M : Type 1} → statement M
 ln-refusal-spec =
     tie.close
-    (tie.spec (λ c κs. search needs) returns add-t8 add-t9 result-refusal-requires returns-2)
+    (tie.spec (λ c κs. search needs) returns add-result-refusal add-t9 result-refusal-requires returns-2)

@@ -14,10 +14,11 @@ measure-eml-requires c κs =
 
 returns : tie.Need-returns
 returns c =
-    let at2 = c .before .before in
-    let at4 = at2 .before .before in
-    let e = sym (at2 .node .given .1) in
-    (c .measure-eml .ensures .0 ∙ ap (λ (m : Node). sizeBy m (now (at4 .args .size))) e, c .measure-eml .ensures .1 ∙ ap (λ (m : Node). depthBy m (now (at4 .args .depth))) e)
+    let at4 = c .before .before .before .before in
+    let e = sym (c .before .before .node .given .1) in (
+      c .measure-eml .ensures .0 ∙ ap (λ (m : Node). sizeBy m (now (at4 .args .size))) e,
+      c .measure-eml .ensures .1 ∙ ap (λ (m : Node). depthBy m (now (at4 .args .depth))) e,
+    )
 
 pub measure-spec : {M : Type 1} → statement M
 measure-spec =

@@ -14,31 +14,29 @@ returns c = (no-list _ _ _ _ (sym (c .before .nodes-fit .ensures) ∙ not-true _
 
 test-nodes-requires : tie.Need-test-nodes-requires
 test-nodes-requires c κs =
-    let at2 = c .before .before in
-    let at3 = at2 .before in
-    let w = fit-parts _ _ (sym (at3 .nodes-fit .ensures) ∙ not-false _ (at2 .if1 .left)) in
+    let w = fit-parts _ _ (sym (c .before .before .before .nodes-fit .ensures) ∙ not-false _ (c .before .before .if1 .left)) in
     (w .0, w .1, refl, refl)
 
 returns-2 : tie.Need-returns-2
 returns-2 c =
-    let at4 = c .before .before .before .before in
-    let at5 = at4 .before in
-    (bad-list _ _ _ _ (sym (at5 .nodes-fit .ensures) ∙ not-false _ (at4 .if1 .left)) _ (c .before .test-nodes .ensures .0) (c .if2 .taken), λ z. absurd (c .if2 .taken z))
+    let at4 = c .before .before .before .before in (
+      bad-list _ _ _ _ (sym (at4 .before .nodes-fit .ensures) ∙ not-false _ (at4 .if1 .left)) _ (c .before .test-nodes .ensures .0) (c .if2 .taken),
+      λ z. absurd (c .if2 .taken z),
+    )
 
 returns-3 : tie.Need-returns-3
 returns-3 c =
-    let at2 = c .before .before in
-    let at5 = at2 .before .before .before in
-    let at6 = at5 .before in
-    (no-x _ _ _ _ (sym (at6 .nodes-fit .ensures) ∙ not-false _ (at5 .if1 .left)) (sym (c .before .if2 .left) ∙ at2 .test-nodes .ensures .0) (c .if3 .taken), λ z. absurd (omega arith))
+    let at5 = c .before .before .before .before .before in (
+      no-x _ _ _ _ (sym (at5 .before .nodes-fit .ensures) ∙ not-false _ (at5 .if1 .left)) (sym (c .before .if2 .left) ∙ c .before .before .test-nodes .ensures .0) (c .if3 .taken),
+      λ z. absurd (omega arith),
+    )
 
 returns-4 : tie.Need-returns-4
 returns-4 c =
-    let at2 = c .before .before in
-    let at3 = at2 .before in
-    let at6 = at3 .before .before .before in
-    let at7 = at6 .before in
-    (no-y _ _ _ _ (sym (at7 .nodes-fit .ensures) ∙ not-false _ (at6 .if1 .left)) (sym (at2 .if2 .left) ∙ at3 .test-nodes .ensures .0) (c .before .if3 .left) (c .if4 .taken), λ z. absurd (omega arith))
+    let at6 = c .before .before .before .before .before .before in (
+      no-y _ _ _ _ (sym (at6 .before .nodes-fit .ensures) ∙ not-false _ (at6 .if1 .left)) (sym (c .before .before .if2 .left) ∙ c .before .before .before .test-nodes .ensures .0) (c .before .if3 .left) (c .if4 .taken),
+      λ z. absurd (omega arith),
+    )
 
 -- the arrays have a place for each node of the list
 few : (c : tie.Else4) → let at9 = c .before .before .before .before .before .before .before .before .before in at9 .args .count ≤ 1024
@@ -48,15 +46,16 @@ few c =
 
 returns-5 : tie.Need-returns-5
 returns-5 c =
-    let at2 = c .before .before in
-    let at3 = at2 .before in
+    let at3 = c .before .before .before in
     let at6 = at3 .before .before .before in
     let at7 = at6 .before in
     let at9 = at7 .before .before in
     let w = fit-parts _ _ (sym (at7 .nodes-fit .ensures) ∙ not-false _ (at6 .if1 .left)) in
-    let v = valid _ _ (at9 .args .x) (at9 .args .y) (sym (at7 .nodes-fit .ensures) ∙ not-false _ (at6 .if1 .left)) (sym (at2 .if2 .left) ∙ at3 .test-nodes .ensures .0) in
-    let e = at3 .test-nodes .ensures .1 in
-    (named _ _ _ _ (sym (at7 .nodes-fit .ensures) ∙ not-false _ (at6 .if1 .left)) (sym (at2 .if2 .left) ∙ at3 .test-nodes .ensures .0) (c .before .if3 .left) (c .if4 .left), λ z. (measured _ _ (sym (at2 .if2 .left) ∙ at3 .test-nodes .ensures .0) v _ (c .before .if3 .left) _ (w .0) _ _ (e .0) (e .1), measured _ _ (sym (at2 .if2 .left) ∙ at3 .test-nodes .ensures .0) v _ (c .if4 .left) _ (w .0) _ _ (e .0) (e .1)))
+    let v = valid _ _ (at9 .args .x) (at9 .args .y) (sym (at7 .nodes-fit .ensures) ∙ not-false _ (at6 .if1 .left)) (sym (c .before .before .if2 .left) ∙ at3 .test-nodes .ensures .0) in
+    let e = at3 .test-nodes .ensures .1 in (
+      named _ _ _ _ (sym (at7 .nodes-fit .ensures) ∙ not-false _ (at6 .if1 .left)) (sym (c .before .before .if2 .left) ∙ at3 .test-nodes .ensures .0) (c .before .if3 .left) (c .if4 .left),
+      λ z. (measured _ _ (sym (c .before .before .if2 .left) ∙ at3 .test-nodes .ensures .0) v _ (c .before .if3 .left) _ (w .0) _ _ (e .0) (e .1), measured _ _ (sym (c .before .before .if2 .left) ∙ at3 .test-nodes .ensures .0) v _ (c .if4 .left) _ (w .0) _ _ (e .0) (e .1)),
+    )
 
 pub measure-operands-spec : {M : Type 1} → statement M
 measure-operands-spec =

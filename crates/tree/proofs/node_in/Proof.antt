@@ -22,10 +22,8 @@ returns-3 c = simp (sym (c .before .before .read-u32 .ensures) ∙ c .before .ma
 returns-4 : tie.Need-returns-4
 unfolding nodeAt if_then_else_
 returns-4 c =
-    let at2 = c .before .before in
-    let at3 = at2 .before in
-    let r = at2 .match .rest in
-    simp (sym (at3 .read-u32 .ensures), ne-eqb _ _ (r .1), ne-eqb _ _ (r .0 .1), ne-eqb _ _ (r .0 .0 .1), c .before .read-u323 .ensures, c .read-u324 .ensures)
+    let r = c .before .before .match .rest in
+    simp (sym (c .before .before .before .read-u32 .ensures), ne-eqb _ _ (r .1), ne-eqb _ _ (r .0 .1), ne-eqb _ _ (r .0 .0 .1), c .before .read-u323 .ensures, c .read-u324 .ensures)
 
 pub node-in-spec : {M : Type 1} → statement M
 node-in-spec =

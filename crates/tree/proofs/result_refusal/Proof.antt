@@ -17,16 +17,14 @@ returns-2 c = simp (le-leb _ _ (c .before .before .if1 .left), lt-leb _ _ (c .if
 returns-3 : tie.Need-returns-3
 unfolding resultRefusal
 returns-3 c =
-    let at2 = c .before .before in
-    let at4 = at2 .before .before in
-    simp (le-leb _ _ (at4 .if1 .left), le-leb _ _ (at2 .if2 .left), sym (c .before .nodes-fit .ensures) ∙ c .if3 .taken)
+    let at4 = c .before .before .before .before in
+    simp (le-leb _ _ (at4 .if1 .left), le-leb _ _ (c .before .before .if2 .left), sym (c .before .nodes-fit .ensures) ∙ c .if3 .taken)
 
 returns-4 : tie.Need-returns-4
 unfolding resultRefusal
 returns-4 c =
-    let at2 = c .before .before in
-    let at4 = at2 .before .before in
-    simp (le-leb _ _ (at4 .if1 .left), le-leb _ _ (at2 .if2 .left), sym (c .before .nodes-fit .ensures) ∙ c .if3 .left)
+    let at4 = c .before .before .before .before in
+    simp (le-leb _ _ (at4 .if1 .left), le-leb _ _ (c .before .before .if2 .left), sym (c .before .nodes-fit .ensures) ∙ c .if3 .left)
 
 pub result-refusal-spec : {M : Type 1} → statement M
 result-refusal-spec =

@@ -16,29 +16,25 @@ add-t10 c = let m = c .before .before .before .before .before .measure-operands 
 add-t11 : tie.Need-add-t11
 add-t11 c =
     let at4 = c .before .before .before .before in
-    let at6 = at4 .before .before in
-    let m = at6 .measure-operands .ensures .1 (at4 .if1 .left) in
+    let m = at4 .before .before .measure-operands .ensures .1 (at4 .if1 .left) in
     omega arith
 
 add-larger : tie.Need-add-larger
 add-larger c =
     let at5 = c .before .before .before .before .before in
-    let at7 = at5 .before .before in
-    let m = at7 .measure-operands .ensures .1 (at5 .if1 .left) in
+    let m = at5 .before .before .measure-operands .ensures .1 (at5 .if1 .left) in
     omega arith
 
 add-larger-2 : tie.Need-add-larger-2
 add-larger-2 c =
     let at6 = c .before .before .before .before .before .before in
-    let at8 = at6 .before .before in
-    let m = at8 .measure-operands .ensures .1 (at6 .if1 .left) in
+    let m = at6 .before .before .measure-operands .ensures .1 (at6 .if1 .left) in
     omega arith
 
 result-refusal-requires : tie.Need-result-refusal-requires
 result-refusal-requires c κs =
     let at7 = c .before .before .before .before .before .before .before in
-    let at9 = at7 .before .before in
-    let v = operands-known _ _ _ _ (sym (at9 .measure-operands .ensures .0) ∙ at7 .if1 .left) in
+    let v = operands-known _ _ _ _ (sym (at7 .before .before .measure-operands .ensures .0) ∙ at7 .if1 .left) in
     (v .0 .few, omega arith)
 
 returns-2 : tie.Need-returns-2

@@ -30,13 +30,12 @@ module _ (c : tie.After-measure Inv-loop μ-loop) where
       let b = now (l .before .before .args .nodes) in
       (c .measure .result .size ≡ size (treeAt b (l .loop .k))) × (c .measure .result .depth ≡ depth (treeAt b (l .loop .k)))
   measured =
-      let l = c .before .before .before .before .before .before .before in
-      let h = c .before .before .before .before .before .before in
+      let at6 = c .before .before .before .before .before .before in
+      let l = at6 .before in
+      let h = at6 in
       let w = told _ _ _ _ _ _ (l .loop .inv .1) _ (h .loop-test .taken) (omega arith) (omega arith) is (omega arith) (omega arith) in
-      let e = c .before .before .before .node-in .ensures in (
-        c .measure .ensures .0 ∙ ap (λ (m : Node). sizeBy m (l .loop .size)) e ∙ w .0,
-        c .measure .ensures .1 ∙ ap (λ (m : Node). depthBy m (l .loop .depth)) e ∙ w .1,
-      )
+      let e = c .before .before .before .node-in .ensures in
+      (c .measure .ensures .0 ∙ ap (λ (m : Node). sizeBy m (l .loop .size)) e ∙ w .0, c .measure .ensures .1 ∙ ap (λ (m : Node). depthBy m (l .loop .depth)) e ∙ w .1)
 
 loop-holds : tie.Need-loop-holds Inv-loop μ-loop
 unfolding first filled
@@ -44,44 +43,38 @@ loop-holds c = (omega arith, record { none = refl; sizes = refl; depths = refl }
 
 returns : tie.Need-returns Inv-loop μ-loop
 returns c =
-    let at2 = c .before .before in
-    let at3 = at2 .before in
-    three _ _ _ _ _ _ (at3 .loop .inv .1) _ (at2 .loop-test .taken) (omega arith) (omega arith) (sym (c .before .is-node .ensures) ∙ not-true _ (c .if1 .taken))
+    three _ _ _ _ _ _ (c .before .before .before .loop .inv .1) _ (c .before .before .loop-test .taken) (omega arith) (omega arith) (sym (c .before .is-node .ensures) ∙ not-true _ (c .if1 .taken))
 
 measure-requires : tie.Need-measure-requires Inv-loop μ-loop
 measure-requires c κs =
-    let at2 = c .before .before in
-    let at3 = at2 .before in
-    let at4 = at3 .before in
-    let at5 = at4 .before in
-    let at6 = at5 .before in
-    subst (λ (m : Node). Known m (at6 .loop .size) (at6 .loop .depth)) (sym (at2 .node-in .ensures)) (asked _ _ _ _ _ _ (at6 .loop .inv .1) _ (at5 .loop-test .taken) (omega arith) (omega arith) (sym (at4 .is-node .ensures) ∙ not-false _ (at3 .if1 .left)) (omega arith) (omega arith))
+    let at4 = c .before .before .before .before in
+    let at6 = at4 .before .before in
+    subst (λ (m : Node). Known m (at6 .loop .size) (at6 .loop .depth)) (sym (c .before .before .node-in .ensures)) (asked _ _ _ _ _ _ (at6 .loop .inv .1) _ (at4 .before .loop-test .taken) (omega arith) (omega arith) (sym (at4 .is-node .ensures) ∙ not-false _ (c .before .before .before .if1 .left)) (omega arith) (omega arith))
 
 returns-2 : tie.Need-returns-2 Inv-loop μ-loop
 returns-2 c =
     let at8 = c .before .before .before .before .before .before .before .before in
-    let at9 = at8 .before in
     let m = c .before .before in
     let w = measured m in
-    four-size _ _ _ _ _ _ (at9 .loop .inv .1) _ (at8 .loop-test .taken) (omega arith) (omega arith) (is m) (omega (arith, w .0))
+    four-size _ _ _ _ _ _ (at8 .before .loop .inv .1) _ (at8 .loop-test .taken) (omega arith) (omega arith) (is m) (omega (arith, w .0))
 
 returns-3 : tie.Need-returns-3 Inv-loop μ-loop
 returns-3 c =
-    let at10 = c .before .before .before .before .before .before .before .before .before .before in
-    let at11 = at10 .before in
-    let m = c .before .before .before .before in
+    let at4 = c .before .before .before .before in
+    let at10 = at4 .before .before .before .before .before .before in
+    let m = at4 in
     let w = measured m in
-    four-depth _ _ _ _ _ _ (at11 .loop .inv .1) _ (at10 .loop-test .taken) (omega arith) (omega arith) (is m) (omega (arith, w .0)) (omega (arith, w .1))
+    four-depth _ _ _ _ _ _ (at10 .before .loop .inv .1) _ (at10 .loop-test .taken) (omega arith) (omega arith) (is m) (omega (arith, w .0)) (omega (arith, w .1))
 
 loop-again : tie.Need-loop-again Inv-loop μ-loop
 loop-again c =
-    let at2 = c .before .before in
-    let at3 = at2 .before in
-    let at10 = at3 .before .before .before .before .before .before .before in
-    let at11 = at10 .before in
-    let m = c .before .before .before .before in
-    let w = measured m in
-    (omega arith, next _ _ _ _ _ _ (at11 .loop .inv .1) _ (at10 .loop-test .taken) (omega arith) (omega arith) (is m) _ _ (w .0) (w .1) (at2 .if2 .left) (c .if3 .left))
+    let at4 = c .before .before .before .before in
+    let at10 = at4 .before .before .before .before .before .before in
+    let m = at4 in
+    let w = measured m in (
+      omega arith,
+      next _ _ _ _ _ _ (at10 .before .loop .inv .1) _ (at10 .loop-test .taken) (omega arith) (omega arith) (is m) _ _ (w .0) (w .1) (c .before .before .if2 .left) (c .if3 .left),
+    )
 
 returns-4 : tie.Need-returns-4 Inv-loop μ-loop
 returns-4 c = finished _ _ _ _ _ _ (c .before .loop .inv .1) _ (c .loop-test .left) (c .before .loop .inv .0)

@@ -6,11 +6,10 @@ use Rattle.tree.proofs.write_record.Tie as tie
 
 returns : tie.Need-returns
 returns c =
-    let at2 = c .before .before in
-    let at6 = at2 .before .before .before .before in
+    let at6 = c .before .before .before .before .before .before in
     let at10 = at6 .before .before .before .before in
     let at14 = at10 .before .before .before .before in
-    four-words _ _ _ _ _ _ (at14 .write-u32 .ensures) (at10 .write-u322 .ensures) (at6 .write-u323 .ensures) (at2 .write-u324 .ensures)
+    four-words _ _ _ _ _ _ (at14 .write-u32 .ensures) (at10 .write-u322 .ensures) (at6 .write-u323 .ensures) (c .before .before .write-u324 .ensures)
 
 pub write-record-spec : {M : Type 1} → statement M
 write-record-spec =

@@ -11,13 +11,16 @@ use Rattle.tree.proofs.write_sub.Tie as tie
 
 returns : tie.Need-returns
 returns c =
-    let at17 = c .before .before .before .before .before .before .before .before .before .before .before .before .before .before .before .before .before in
+    let at6 = c .before .before .before .before .before .before in
+    let at10 = at6 .before .before .before .before in
+    let at14 = at10 .before .before .before .before in
+    let at17 = at14 .before .before .before in
     let n = at17 .args .n in
     let x = at17 .args .x in
     let y = at17 .args .y in
-    let e = one-node _ n Node.One (c .before .before .before .before .before .before .before .before .before .before .before .before .before .before .write-one .ensures) in
-    let f = then-nodes _ n (n + 1) (Node.One ∷ []) (lnNodes (n + 1) x) e (c .before .before .before .before .before .before .before .before .before .before .write-ln .ensures) refl in
-    let g = then-node _ n (n + 5) (Node.One ∷ lnNodes (n + 1) x) (Node.Eml y n) f (c .before .before .before .before .before .before .write-eml .ensures) refl in
+    let e = one-node _ n Node.One (at14 .write-one .ensures) in
+    let f = then-nodes _ n (n + 1) (Node.One ∷ []) (lnNodes (n + 1) x) e (at10 .write-ln .ensures) refl in
+    let g = then-node _ n (n + 5) (Node.One ∷ lnNodes (n + 1) x) (Node.Eml y n) f (at6 .write-eml .ensures) refl in
     then-node _ n (n + 6) (Node.One ∷ lnNodes (n + 1) x ++ Node.Eml y n ∷ []) (Node.Eml (n + 4) (n + 5)) g (c .before .before .write-eml2 .ensures) refl
 
 pub write-sub-spec : {M : Type 1} → statement M

@@ -14,24 +14,20 @@ returns c = append-refused _ _ _ _ _ _ (c .before .ln-refusal .ensures) (c .if1 
 
 write-ln-requires : tie.Need-write-ln-requires
 write-ln-requires c κs =
-    let at2 = c .before .before in
-    let w = ln-accepted _ _ _ (sym (at2 .ln-refusal .ensures) ∙ c .before .if1 .left) in
+    let w = ln-accepted _ _ _ (sym (c .before .before .ln-refusal .ensures) ∙ c .before .if1 .left) in
     (w .1 .few, w .1 .there, w .0)
 
 add-t11 : tie.Need-add-t11
 add-t11 c =
     let at4 = c .before .before .before .before in
-    let at5 = at4 .before in
-    let w = ln-accepted _ _ _ (sym (at5 .ln-refusal .ensures) ∙ at4 .if1 .left) in
+    let w = ln-accepted _ _ _ (sym (at4 .before .ln-refusal .ensures) ∙ at4 .if1 .left) in
     omega arith
 
 returns-2 : tie.Need-returns-2
 unfolding ln
 returns-2 c =
-    let at2 = c .before .before in
-    let at4 = at2 .before .before in
-    let at5 = at4 .before in
-    append-done _ _ _ _ _ _ (sym (at5 .ln-refusal .ensures) ∙ at4 .if1 .left) (at2 .write-ln .ensures)
+    let at4 = c .before .before .before .before in
+    append-done _ _ _ _ _ _ (sym (at4 .before .ln-refusal .ensures) ∙ at4 .if1 .left) (c .before .before .write-ln .ensures)
 
 pub ln-spec : {M : Type 1} → statement M
 ln-spec =

@@ -14,24 +14,20 @@ returns c = append-refused _ _ _ _ _ _ (c .before .sub-refusal .ensures) (c .if1
 
 write-sub-requires : tie.Need-write-sub-requires
 write-sub-requires c κs =
-    let at2 = c .before .before in
-    let w = sub-accepted _ _ _ _ (sym (at2 .sub-refusal .ensures) ∙ c .before .if1 .left) in
+    let w = sub-accepted _ _ _ _ (sym (c .before .before .sub-refusal .ensures) ∙ c .before .if1 .left) in
     (w .2 .few, w .2 .there, w .0, w .1)
 
 add-t12 : tie.Need-add-t12
 add-t12 c =
     let at4 = c .before .before .before .before in
-    let at5 = at4 .before in
-    let w = sub-accepted _ _ _ _ (sym (at5 .sub-refusal .ensures) ∙ at4 .if1 .left) in
+    let w = sub-accepted _ _ _ _ (sym (at4 .before .sub-refusal .ensures) ∙ at4 .if1 .left) in
     omega arith
 
 returns-2 : tie.Need-returns-2
 unfolding sub
 returns-2 c =
-    let at2 = c .before .before in
-    let at4 = at2 .before .before in
-    let at5 = at4 .before in
-    append-done _ _ _ _ _ _ (sym (at5 .sub-refusal .ensures) ∙ at4 .if1 .left) (at2 .write-sub .ensures)
+    let at4 = c .before .before .before .before in
+    append-done _ _ _ _ _ _ (sym (at4 .before .sub-refusal .ensures) ∙ at4 .if1 .left) (c .before .before .write-sub .ensures)
 
 pub sub-spec : {M : Type 1} → statement M
 sub-spec =

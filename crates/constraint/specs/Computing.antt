@@ -1,0 +1,12 @@
+-- One name under which a proof by computation opens every definition of this crate and of `tree`.
+use lib.Ieee
+use Rattle.tree.specs.Computing as Below
+use Rattle.constraint.specs.Constraint
+use Rattle.constraint.specs.Records
+use Rattle.constraint.specs.Starts
+use Rattle.constraint.specs.Fingerprint
+use Rattle.constraint.specs.Comparison
+
+unfoldable pub computing : Unit {0}
+unfolding Below.computing Ieee.le Constraint.levels Constraint.quantifiers Constraint.numVars Records.relationOf Records.recordAt Records.isRecord Records.gather Records.finish Records.finished Records.constraintAt Records.recordRefusal Records.recordsRefusal Starts.begun Starts.startAt Fingerprint.number Fingerprint.fingerprint Comparison.recordBytes Comparison.compareRefusal Comparison.compared
+computing = tt

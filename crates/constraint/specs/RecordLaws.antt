@@ -1,0 +1,263 @@
+-- Laws of constraint records that passed: what a function that reads them cites. Assumes nothing.
+use Prim.Native.Nat.{ℕ, zero, suc, _+_, _*_, _-_, _≤_, _<_}
+use mathlib.Core.Path.{_≡_, refl, sym, ap, ap₂, _∙_, subst}
+use mathlib.Core.Bool.{Bool, true, false, _&&_}
+use mathlib.Core.List.{List, [], _∷_, _++_}
+use native.Mathlib.Omega.{arith}
+use borrow.Author.Tests.{leb-true, ltb-true, eqb-true}
+use lib.Dec.{T, leb, ltb, eqb}
+use lib.Ieee.{Float, binary64}
+use lib.ListN.{length, getD, length-append}
+use Rattle.number.specs.Notation.{if_then_else_}
+use Rattle.number.specs.Halving.{sound}
+use Rattle.tree.specs.Bytes.{u32At, u64At}
+use Rattle.tree.specs.Refusal.{_unless_, first, passing, filled}
+use Rattle.tree.specs.RefusalLaws.{both, none-both, none-unless, none-of-each, passing-all, length-filled, filled-at}
+use Rattle.tree.specs.Nodes.{treeAt, Valid}
+use Rattle.tree.specs.NodeLaws.{prefix as nodes-prefix}
+use Rattle.constraint.specs.Constraint.{Constraint, levels, quantifiers}
+use Rattle.constraint.specs.Records.{recordAt, isRecord, isRanged, takes, gather, none, finish, finished, constraintAt, recordRefusal, recordsRefusal}
+use Rattle.constraint.specs.Starts.{startAt, upTo, Ready, Taken}
+use Rattle.constraint.specs.StartLaws.{chain, constraint-of, start-below, length-up-to, height-below}
+use Rattle.constraint.specs.declared.Relation.{Relation}
+use Rattle.constraint.specs.declared.Record.{Record}
+
+-- ---- what a record that is one says
+abbrev Right : ℕ → Record → Type 0
+Right n (Record.Atom rel i) = i < n
+Right n Record.Not = Unit {0}
+Right n (Record.And m) = Unit {0}
+Right n (Record.Or m) = Unit {0}
+Right n (Record.ForAll v lo hi) = v < 16
+Right n (Record.Exists v lo hi) = v < 16
+
+right-of : (n arg : ℕ) (rel : Relation) (lo hi : Float) (atom not and or forall exists arg0 blank : Bool) →
+    (if atom then ltb arg n && blank else if not then arg0 && blank else if and then blank else if or then blank else if forall then ltb arg 16 else if exists then ltb arg 16 else false) ≡ true →
+    Right n (if atom then Record.Atom rel arg else if not then Record.Not else if and then Record.And arg else if or then Record.Or arg else if forall then Record.ForAll arg lo hi else Record.Exists arg lo hi)
+unfolding if_then_else_
+right-of n arg rel lo hi true not and or forall exists arg0 blank e = ltb-true arg n (both (ltb arg n) blank e .0)
+right-of n arg rel lo hi false true and or forall exists arg0 blank e = tt
+right-of n arg rel lo hi false false true or forall exists arg0 blank e = tt
+right-of n arg rel lo hi false false false true forall exists arg0 blank e = tt
+right-of n arg rel lo hi false false false false true exists arg0 blank e = ltb-true arg 16 e
+right-of n arg rel lo hi false false false false false true arg0 blank e = ltb-true arg 16 e
+right-of n arg rel lo hi false false false false false false arg0 blank e = absurd (subst T (sym e) tt)
+
+right : (n : ℕ) (b : List ℕ) (k : ℕ) → isRecord n b k ≡ true → Right n (recordAt b k)
+unfolding isRecord recordAt
+right n b k e =
+    let at = 24 * k in
+    let kind = u32At b at in
+    let arg = u32At b (at + 4) in
+    right-of n arg _ _ _ (ltb kind 6) (eqb kind 6) (eqb kind 7) (eqb kind 8) (eqb kind 9) (eqb kind 10) (eqb arg 0) (eqb (u64At b (at + 8)) 0 && eqb (u64At b (at + 16)) 0) e
+
+-- ---- a record that passed
+record Stands (nodes : List ℕ) (n : ℕ) (b : List ℕ) (k : ℕ) : Type 0 where
+  is-record : isRecord n b k ≡ true
+  enough : takes (recordAt b k) ≤ length (finished nodes b k)
+  ranged : isRanged (recordAt b k) ≡ true
+  shallow : levels (constraintAt nodes b k) ≤ 16
+  few : quantifiers (constraintAt nodes b k) ≤ 4
+
+stands : (nodes : List ℕ) (n : ℕ) (b : List ℕ) (k : ℕ) → recordRefusal nodes n b k ≡ 0 → Stands nodes n b k
+unfolding recordRefusal
+stands nodes n b k e =
+    let t = leb (takes (recordAt b k)) (length (finished nodes b k)) in
+    let l = leb (levels (constraintAt nodes b k)) 16 in
+    let q = leb (quantifiers (constraintAt nodes b k)) 4 in
+    let w = none-both (5 unless isRecord n b k && t) _ e in
+    let x = both (isRecord n b k) t (none-unless 4 (isRecord n b k && t) (w .0)) in
+    let y = none-both (6 unless isRanged (recordAt b k)) _ (w .1) in
+    let z = both l q (none-unless 6 (l && q) (y .1)) in
+    record { is-record = x .0; enough = leb-true _ _ (x .1); ranged = none-unless 5 (isRanged (recordAt b k)) (y .0); shallow = leb-true _ _ (z .0); few = leb-true _ _ (z .1) }
+
+-- ---- records that passed
+module _ (nodes b : List ℕ) (n : ℕ) (starts : List ℕ) (p : Ready nodes b n starts) where
+  pub fewer : (m : ℕ) → m ≤ n → Ready nodes b m starts
+  fewer m h = record {
+    count = p .count;
+    valid = p .valid;
+    few = omega (arith, p .few);
+    there = omega (arith, p .there);
+    passed = λ k l. p .passed k (omega arith);
+    room = p .room;
+    begins = λ k l. p .begins k (omega arith);
+  }
+
+  module _ (k : ℕ) (l : k < n) where
+    pub levels-few : levels (constraintAt nodes b k) ≤ 16
+    levels-few = stands nodes (p .count) b k (p .passed k l) .shallow
+
+    pub quantifiers-few : quantifiers (constraintAt nodes b k) ≤ 4
+    quantifiers-few = stands nodes (p .count) b k (p .passed k l) .few
+
+-- ---- a recursion on record numbers: record k, by what it says
+module _ (nodes b : List ℕ) (k : ℕ) (starts : List ℕ) (p : Ready nodes b (k + 1) starts) where
+  here : Stands nodes (p .count) b k
+  here = stands nodes (p .count) b k (p .passed k (omega arith))
+
+  pub record-there : 24 * k + 24 ≤ length b
+  record-there = omega (arith, p .there)
+
+  module _ (x : Record) (e : recordAt b k ≡ x) where
+    right-here : Right (p .count) x
+    right-here = subst (Right (p .count)) e (right (p .count) b k (here .is-record))
+
+    enough-here : takes x ≤ length (finished nodes b k)
+    enough-here = subst (λ (y : Record). takes y ≤ length (finished nodes b k)) e (here .enough)
+
+    ranged-here : isRanged x ≡ true
+    ranged-here = ap isRanged (sym e) ∙ here .ranged
+
+    constraint-here : constraintAt nodes b k ≡ finish nodes x (upTo nodes b (takes x) k)
+    constraint-here = constraint-of nodes b k (here .enough) ∙ ap (λ (y : Record). finish nodes y (upTo nodes b (takes y) k)) e
+
+    taken-here : Taken nodes b (takes x) k starts
+    taken-here = record { ready = fewer nodes b (k + 1) starts p k (omega arith); enough = enough-here }
+
+  -- what takes one takes constraint k - 1
+  some-before : (n : ℕ) → 1 ≤ length (finished nodes b n) → 0 < n
+  unfolding finished
+  some-before zero h = absurd (omega arith)
+  some-before (suc n) h = omega arith
+
+  one-taken : (n : ℕ) → 0 < n → getD (upTo nodes b 1 n) 0 none ≡ constraintAt nodes b (n - 1)
+  unfolding upTo
+  one-taken zero h = absurd (omega arith)
+  one-taken (suc n) h = ap (constraintAt nodes b) (omega arith)
+
+  module _ (x : Record) (e : recordAt b k ≡ x) (one : takes x ≡ 1) where
+    pub inside : (0 < k) × Ready nodes b (k - 1 + 1) starts
+    inside =
+        let h = some-before k (omega (arith, enough-here x e)) in
+        (h, fewer nodes b (k + 1) starts p (k - 1 + 1) (omega arith))
+
+    inside-is : getD (upTo nodes b (takes x) k) 0 none ≡ constraintAt nodes b (k - 1)
+    inside-is = ap (λ (m : ℕ). getD (upTo nodes b m k) 0 none) one ∙ one-taken k (inside .0)
+
+  module _ (rel : Relation) (i : ℕ) (e : recordAt b k ≡ Record.Atom rel i) where
+    pub at-atom : constraintAt nodes b k ≡ Constraint.Atom rel (treeAt nodes i)
+    unfolding finish
+    at-atom = constraint-here (Record.Atom rel i) e
+
+    pub atom-node : Valid nodes (i + 1)
+    atom-node = nodes-prefix nodes (p .count) (p .valid) (i + 1) (omega (arith, right-here (Record.Atom rel i) e))
+
+  pub at-not : recordAt b k ≡ Record.Not → constraintAt nodes b k ≡ Constraint.Not (constraintAt nodes b (k - 1))
+  unfolding finish
+  at-not e = constraint-here Record.Not e ∙ ap Constraint.Not (inside-is Record.Not e refl)
+
+  module _ (m : ℕ) (e : recordAt b k ≡ Record.And m) where
+    pub at-and : constraintAt nodes b k ≡ Constraint.And (gather (upTo nodes b m k))
+    unfolding finish
+    at-and = constraint-here (Record.And m) e
+
+    pub and-taken : Taken nodes b m k starts
+    and-taken = taken-here (Record.And m) e
+
+  module _ (m : ℕ) (e : recordAt b k ≡ Record.Or m) where
+    pub at-or : constraintAt nodes b k ≡ Constraint.Or (gather (upTo nodes b m k))
+    unfolding finish
+    at-or = constraint-here (Record.Or m) e
+
+    pub or-taken : Taken nodes b m k starts
+    or-taken = taken-here (Record.Or m) e
+
+  module _ (v : ℕ) (lo hi : Float) (e : recordAt b k ≡ Record.ForAll v lo hi) where
+    pub at-forall : constraintAt nodes b k ≡ Constraint.ForAll v lo hi (constraintAt nodes b (k - 1))
+    unfolding finish
+    at-forall = constraint-here (Record.ForAll v lo hi) e ∙ ap (Constraint.ForAll v lo hi) (inside-is (Record.ForAll v lo hi) e refl)
+
+    pub forall-range : (v < 16) × (sound binary64 lo hi ≡ true)
+    forall-range = (right-here (Record.ForAll v lo hi) e, ranged-here (Record.ForAll v lo hi) e)
+
+  module _ (v : ℕ) (lo hi : Float) (e : recordAt b k ≡ Record.Exists v lo hi) where
+    pub at-exists : constraintAt nodes b k ≡ Constraint.Exists v lo hi (constraintAt nodes b (k - 1))
+    unfolding finish
+    at-exists = constraint-here (Record.Exists v lo hi) e ∙ ap (Constraint.Exists v lo hi) (inside-is (Record.Exists v lo hi) e refl)
+
+    pub exists-range : (v < 16) × (sound binary64 lo hi ≡ true)
+    exists-range = (right-here (Record.Exists v lo hi) e, ranged-here (Record.Exists v lo hi) e)
+
+-- ---- those that a record takes: all but the last, and the last
+module _ (nodes b : List ℕ) (m n : ℕ) (starts : List ℕ) (q : Taken nodes b m n starts) where
+  pub few-taken : (m ≤ 256) × (length (upTo nodes b m n) ≡ m)
+  few-taken = (omega (arith, q .enough, q .ready .few, height-below nodes b n), length-up-to nodes b m n (q .enough))
+
+  pub none-taken : m ≡ 0 → upTo nodes b m n ≡ []
+  unfolding upTo
+  none-taken e = ap (λ (i : ℕ). upTo nodes b i n) e
+
+  module _ (h : m ≡ 0 → ⊥) where
+    pub some : 0 < n
+    some = go n (q .enough)
+      where
+        go : (n : ℕ) → m ≤ length (finished nodes b n) → 0 < n
+        go zero g = absurd (h (unfold finished in omega arith))
+        go (suc n) g = omega arith
+
+    -- at the first record of the last, as `starts` has it
+    module _ (s : ℕ) (e : s ≡ getD starts (n - 1) 0) where
+      is-start : s ≡ startAt b (n - 1)
+      is-start = e ∙ q .ready .begins (n - 1) (omega (arith, some))
+
+      pub start-falls : s < n
+      start-falls = omega (arith, some, is-start, start-below b (n - 1))
+
+      pub before-last : Taken nodes b (m - 1) s starts
+      before-last =
+          let c : n ≡ suc (n - 1) = omega (arith, some) in
+          let k = ap (λ (i : ℕ). length (finished nodes b i)) c ∙ ap length (chain nodes b (n - 1)) ∙ length-append (finished nodes b (startAt b (n - 1))) (constraintAt nodes b (n - 1) ∷ []) in
+          let r = ap (λ (i : ℕ). length (finished nodes b i)) is-start in
+          record { ready = fewer nodes b n starts (q .ready) s (omega (arith, start-falls)); enough = omega (arith, q .enough) }
+
+      pub last : Ready nodes b (n - 1 + 1) starts
+      last = fewer nodes b n starts (q .ready) (n - 1 + 1) (omega (arith, some))
+
+      pub up-to : upTo nodes b m n ≡ upTo nodes b (m - 1) s ++ constraintAt nodes b (n - 1) ∷ []
+      unfolding upTo
+      up-to =
+          let a : m ≡ suc (m - 1) = omega arith in
+          let c : n ≡ suc (n - 1) = omega (arith, some) in
+          ap₂ (upTo nodes b) a c ∙ ap (λ (i : ℕ). upTo nodes b (m - 1) i ++ constraintAt nodes b (n - 1) ∷ []) (sym is-start)
+
+-- ---- from the tests to records that passed, and the constraint that is left
+module _ (nodes : List ℕ) (count : ℕ) (b : List ℕ) (n : ℕ) (e : recordsRefusal nodes count b n ≡ 0) where
+  tests : (first (recordRefusal nodes count b) n ≡ 0) × (length (finished nodes b n) ≡ 1)
+  unfolding recordsRefusal
+  tests =
+      let w = none-both (first (recordRefusal nodes count b) n) _ e in
+      (w .0, eqb-true _ _ (none-unless 6 (eqb (length (finished nodes b n)) 1) (w .1)))
+
+  pub one-left : length (finished nodes b n) ≡ 1
+  one-left = tests .1
+
+  pub ready : Valid nodes count → n ≤ 256 → 24 * n ≤ length b → (old starts : List ℕ) → length old ≡ 256 →
+      starts ≡ filled (startAt b) (passing (recordRefusal nodes count b) n) old → Ready nodes b n starts
+  ready v few there old starts l s =
+      let q = s ∙ ap (λ (j : ℕ). filled (startAt b) j old) (passing-all (recordRefusal nodes count b) n (tests .0)) in
+      record {
+        count = count;
+        valid = v;
+        few = few;
+        there = there;
+        passed = none-of-each (recordRefusal nodes count b) n (tests .0);
+        room = ap length q ∙ length-filled (startAt b) old n ∙ l;
+        begins = λ k h. ap (λ (a : List ℕ). getD a k 0) q ∙ filled-at (startAt b) old n k h (omega arith);
+      }
+
+only : (xs : List Constraint) (c d : Constraint) → length (xs ++ c ∷ []) ≡ 1 → getD (xs ++ c ∷ []) 0 d ≡ c
+only [] c d h = refl
+only (x ∷ xs) c d h = absurd (omega (arith, length-append xs (c ∷ [])))
+
+-- the one that is left is the last record's
+pub root : (nodes b : List ℕ) (n : ℕ) → length (finished nodes b n) ≡ 1 → (0 < n) × (getD (finished nodes b n) 0 none ≡ constraintAt nodes b (n - 1))
+unfolding finished
+root nodes b zero h = absurd (omega arith)
+root nodes b (suc n) h =
+    let m : n ≡ suc n - 1 = omega arith in (
+      omega arith,
+      ap (λ (l : List Constraint). getD l 0 none) (chain nodes b n)
+          ∙ only (finished nodes b (startAt b n)) (constraintAt nodes b n) none (sym (ap length (chain nodes b n)) ∙ h)
+          ∙ ap (constraintAt nodes b) m,
+    )
