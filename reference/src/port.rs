@@ -17,6 +17,15 @@ mod raw {
         pub fn eml_bits_of(x: f64) -> u64;
         pub fn eml_complex_exp(re: f64, im: f64, out_re: *mut f64, out_im: *mut f64);
         pub fn eml_complex_ln(re: f64, im: f64, out_re: *mut f64, out_im: *mut f64);
+        pub fn eml_read(file: *const u8, length: usize) -> u8;
+        pub fn eml_read_records(
+            nodes: *const u8,
+            nodes_length: usize,
+            constraints: *const u8,
+            constraints_length: usize,
+        ) -> u8;
+        pub fn eml_num_vars(file: *const u8, length: usize, out: *mut u64) -> u8;
+        pub fn eml_fingerprint(file: *const u8, length: usize, out: *mut u64) -> u8;
         pub fn eml_canonical_ln(nodes: *mut u8, length: usize, count: usize, x: usize) -> u8;
         pub fn eml_canonical_sub(
             nodes: *mut u8,
@@ -138,6 +147,35 @@ pub type Refusal = u8;
 fn refused_unless_zero<T>(number: Refusal, value: T) -> Result<T, Refusal> {
     if number == 0 { Ok(value) } else { Err(number) }
 }
+
+/// The refusal of a file, or 0.
+pub fn read(file: &[u8]) -> Refusal {
+    unsafe { raw::eml_read(file.as_ptr(), file.len()) }
+}
+
+/// The refusal of records given without a file, or 0.
+pub fn read_records(nodes: &[u8], constraints: &[u8]) -> Refusal {
+    let (list, length) = (nodes.as_ptr(), nodes.len());
+    unsafe { raw::eml_read_records(list, length, constraints.as_ptr(), constraints.len()) }
+}
+
+/// What an output holds before a call; a refusal must leave it.
+const UNTOUCHED: u64 = 0x5A5A_5A5A_5A5A_5A5A;
+
+/// A number of a file.
+macro_rules! file_call {
+    ($name:ident, $raw:ident) => {
+        pub fn $name(file: &[u8]) -> Result<u64, Refusal> {
+            let mut out = UNTOUCHED;
+            let number = unsafe { raw::$raw(file.as_ptr(), file.len(), &mut out) };
+            assert!(number == 0 || out == UNTOUCHED);
+            refused_unless_zero(number, out)
+        }
+    };
+}
+
+file_call!(num_vars, eml_num_vars);
+file_call!(fingerprint, eml_fingerprint);
 
 /// Appends the nodes of ln x to a list of `count` nodes; the number of the last one.
 pub fn canonical_ln(nodes: &mut [u8], count: usize, x: usize) -> Result<usize, Refusal> {

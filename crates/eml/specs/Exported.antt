@@ -4,6 +4,7 @@ use mathlib.Core.List.{List}
 use Rattle.tree.specs.declared.Appended.{Appended}
 use Rattle.tree.specs.Canonical.{Outcome, _leaving_}
 use Rattle.constraint.specs.Comparison.{Compared, _leaving_and_}
+use Rattle.file.specs.declared.Answer.{Answer}
 
 -- ---- Canonical: the number, and the list at exit
 pub record Listed : Type 0 where
@@ -31,3 +32,22 @@ recorded r b o = record { number = r; nodes = b; out = o }
 
 abbrev pub comparison : Compared → Recorded
 comparison (answer leaving b and o) = recorded (numberOf answer) b o
+
+-- ---- a number of a file: the refusal, and the lent place at exit
+pub record Valued : Type 0 where
+  pub number : ℕ
+  pub out : ℕ
+
+abbrev pub valued : ℕ → ℕ → Valued
+valued r v = record { number = r; out = v }
+
+abbrev pub refusalOf : Answer → ℕ
+refusalOf (Answer.Refused r) = r
+refusalOf (Answer.Value v) = 0
+
+abbrev pub valueOf : Answer → ℕ → ℕ
+valueOf (Answer.Refused r) old = old
+valueOf (Answer.Value v) old = v
+
+abbrev pub answering : Answer → ℕ → Valued
+answering answer old = valued (refusalOf answer) (valueOf answer old)

@@ -3,3 +3,4 @@
 mod canonical;
 mod intervals;
 mod mathematics;
+mod reading;

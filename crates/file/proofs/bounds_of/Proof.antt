@@ -1,0 +1,23 @@
+-- `file::bounds_of` meets its contract. Assumes nothing.
+use borrow.Author.Needs.{needs}
+use Rattle.file.proofs.Parts.{bounds-part}
+use Rattle.file.proofs.bounds_of.Statement.{statement}
+use Rattle.file.proofs.bounds_of.Tie as tie
+
+returns : tie.Need-returns
+returns c = bounds-part _ _ _ (c .before .before .node-count .ensures) (c .before .constraint-count .ensures)
+
+pub bounds-of-spec : {M : Type 1} → statement M
+bounds-of-spec =
+    tie.close
+    (tie.spec
+    (λ c κs. search needs)
+    (λ c. search needs)
+    (λ c. search needs)
+    (λ c κs. search needs)
+    (λ c. search needs)
+    (λ c. search needs)
+    (λ c. search needs)
+    (λ c. search needs)
+    (λ c. search needs)
+    returns)

@@ -1,0 +1,225 @@
+// The house file (document 01, "The file"): its tests, and what an accepted file says.
+use interval::Interval;
+ghost use mathlib.Core.Path.{_≡_};
+ghost use Prim.Native.Nat.{_+_, _*_, _≤_};
+ghost use lib.ListN.{length};
+ghost use Rattle.tree.specs.Refusal.{first};
+ghost use Rattle.file.specs.File.{nodeCount, constraintCount, boundCount, nodesOf, constraintsOf, boundsOf, isHeaded, isLaidOut, boundAt, boundRefusal, refusal, readFile, givenRefusal};
+ghost use Rattle.file.specs.Code.{Laid, bodiesRefusal, bodiesStarts, fileStarts, givenStarts};
+ghost use Rattle.file.specs.Answer.{answered};
+ghost use Rattle.constraint.specs.Constraint.{numVars};
+ghost use Rattle.constraint.specs.Fingerprint.{fingerprint as printOf};
+
+fn is_headed(file: &[u8]) -> bool
+    ensures { λ r. ⌜ r ≡ isHeaded (now (file .entry)) ⌝ }
+{
+    if file.len() < 32 {
+        return false;
+    }
+    let mark = tree::read_u32(file, 0);
+    let version = tree::read_u32(file, 4);
+    (mark == 0x514c_4d45) & (version == 1)
+}
+
+fn is_laid_out(file: &[u8]) -> bool
+    requires { ⌜ 32 ≤ length (now file) ⌝ }
+    ensures { λ r. ⌜ r ≡ isLaidOut (now (file .entry)) ⌝ }
+{
+    let nodes = tree::read_u32(file, 12) as usize;
+    let constraints = tree::read_u32(file, 20) as usize;
+    let bounds = tree::read_u32(file, 28) as usize;
+    let x = tree::read_u32(file, 8) as usize;
+    let y = tree::read_u32(file, 16) as usize;
+    let z = tree::read_u32(file, 24) as usize;
+    let from = 32 + 16 * nodes;
+    let to = from + 24 * constraints;
+    let end = to + 16 * bounds;
+    let size = file.len();
+    (nodes <= 1024)
+        & (constraints <= 256)
+        & (bounds <= 16)
+        & (x == 32)
+        & (y == from)
+        & (z == to)
+        & (size == end)
+}
+
+// ---- the counts and the bodies of a file that is laid out
+
+pub fn node_count(file: &[u8]) -> usize
+    requires { ⌜ 32 ≤ length (now file) ⌝ }
+    ensures { λ r. ⌜ r ≡ nodeCount (now (file .entry)) ⌝ }
+{
+    tree::read_u32(file, 12) as usize
+}
+
+pub fn constraint_count(file: &[u8]) -> usize
+    requires { ⌜ 32 ≤ length (now file) ⌝ }
+    ensures { λ r. ⌜ r ≡ constraintCount (now (file .entry)) ⌝ }
+{
+    tree::read_u32(file, 20) as usize
+}
+
+pub fn bound_count(file: &[u8]) -> usize
+    requires { ⌜ 32 ≤ length (now file) ⌝ }
+    ensures { λ r. ⌜ r ≡ boundCount (now (file .entry)) ⌝ }
+{
+    tree::read_u32(file, 28) as usize
+}
+
+pub fn nodes_of(file: &[u8]) -> &[u8]
+    requires { ⌜ Laid (now file) ⌝ }
+    ensures { λ r. ⌜ now r ≡ nodesOf (now (file .entry)) ⌝ }
+{
+    let to = 32 + 16 * node_count(file);
+    &file[32..to]
+}
+
+pub fn constraints_of(file: &[u8]) -> &[u8]
+    requires { ⌜ Laid (now file) ⌝ }
+    ensures { λ r. ⌜ now r ≡ constraintsOf (now (file .entry)) ⌝ }
+{
+    let from = 32 + 16 * node_count(file);
+    let to = from + 24 * constraint_count(file);
+    &file[from..to]
+}
+
+pub fn bounds_of(file: &[u8]) -> &[u8]
+    requires { ⌜ Laid (now file) ⌝ }
+    ensures { λ r. ⌜ now r ≡ boundsOf (now (file .entry)) ⌝ }
+{
+    let from = 32 + 16 * node_count(file) + 24 * constraint_count(file);
+    &file[from..]
+}
+
+// Bound k, read with no test.
+pub fn bound_in(bounds: &[u8], k: usize) -> Interval
+    requires { ⌜ 16 * k + 16 ≤ length (now bounds) ⌝ }
+    ensures { λ r. ⌜ r ≡ boundAt (now (bounds .entry)) k ⌝ }
+{
+    let at = 16 * k;
+    Interval::new(tree::read_f64(bounds, at), tree::read_f64(bounds, at + 8))
+}
+
+// Each of n bounds: 6.
+fn test_bounds(bounds: &[u8], n: usize) -> u8
+    requires { ⌜ 16 * n ≤ length (now bounds) ⌝ }
+    ensures { λ r. ⌜ r ≡ first (boundRefusal (now (bounds .entry))) n ⌝ }
+{
+    let mut k: usize = 0;
+    while k < n {
+        let b = bound_in(bounds, k);
+        if !number::is_sound(b.lo, b.hi) {
+            return 6;
+        }
+        k += 1;
+    }
+    0
+}
+
+// ---- the tests of a file, and of records in its place
+
+fn test_bodies(file: &[u8], starts: &mut [usize; 256]) -> u8
+    requires { ⌜ Laid (now file) × (length (now starts) ≡ 256) ⌝ }
+    ensures { λ r. ⌜ r ≡ bodiesRefusal (now (file .entry)) ⌝ }
+    ensures { λ _. ⌜ now (starts .exit) ≡ bodiesStarts (now (file .entry)) (now (starts .entry)) ⌝ }
+{
+    let count = node_count(file);
+    let first = tree::test_list(nodes_of(file), count);
+    if first != 0 {
+        return first;
+    }
+    let n = constraint_count(file);
+    let second = constraint::test_records(count, constraints_of(file), n, starts);
+    if second != 0 {
+        return second;
+    }
+    test_bounds(bounds_of(file), bound_count(file))
+}
+
+// The refusal of a file, or 0. `starts` gets the first record of each constraint that passes.
+pub fn test_file(file: &[u8], starts: &mut [usize; 256]) -> u8
+    requires { ⌜ length (now starts) ≡ 256 ⌝ }
+    ensures { λ r. ⌜ r ≡ refusal (now (file .entry)) ⌝ }
+    ensures { λ _. ⌜ now (starts .exit) ≡ fileStarts (now (file .entry)) (now (starts .entry)) ⌝ }
+{
+    if !is_headed(file) {
+        return 1;
+    }
+    if !is_laid_out(file) {
+        return 2;
+    }
+    test_bodies(file, starts)
+}
+
+// The same of node records and constraint records given without a file.
+pub fn test_given(nodes: &[u8], constraints: &[u8], starts: &mut [usize; 256]) -> u8
+    requires { ⌜ length (now starts) ≡ 256 ⌝ }
+    ensures { λ r. ⌜ r ≡ givenRefusal (now (nodes .entry)) (now (constraints .entry)) ⌝ }
+    ensures { λ _. ⌜ now (starts .exit) ≡ givenStarts (now (nodes .entry)) (now (constraints .entry)) (now (starts .entry)) ⌝ }
+{
+    let x = nodes.len();
+    let y = constraints.len();
+    let count = x / 16;
+    let n = y / 24;
+    if (x % 16 == 0) & (count <= 1024) & (y % 24 == 0) & (n <= 256) {
+        let first = tree::test_list(nodes, count);
+        if first != 0 {
+            return first;
+        }
+        return constraint::test_records(count, constraints, n, starts);
+    }
+    2
+}
+
+// ---- the public calls
+
+// The refusal of a file, or 0.
+pub fn read(file: &[u8]) -> u8
+    ensures { λ r. ⌜ r ≡ refusal (now (file .entry)) ⌝ }
+{
+    let mut starts = [0usize; 256];
+    test_file(file, &mut starts)
+}
+
+// The refusal of records, or 0.
+pub fn read_given(nodes: &[u8], constraints: &[u8]) -> u8
+    ensures { λ r. ⌜ r ≡ givenRefusal (now (nodes .entry)) (now (constraints .entry)) ⌝ }
+{
+    let mut starts = [0usize; 256];
+    test_given(nodes, constraints, &mut starts)
+}
+
+// A number of an accepted file, or its refusal.
+pub enum Answer {
+    Refused(u8),
+    Value(u64),
+}
+
+// The number of variables of a file's constraint.
+pub fn num_vars(file: &[u8]) -> Answer
+    ensures { λ r. ⌜ r ≡ answered numVars (readFile (now (file .entry))) ⌝ }
+{
+    let mut starts = [0usize; 256];
+    let r = test_file(file, &mut starts);
+    if r != 0 {
+        return Answer::Refused(r);
+    }
+    let last = constraint_count(file) - 1;
+    let v = constraint::num_vars(nodes_of(file), constraints_of(file), &starts, last);
+    Answer::Value(v as u64)
+}
+
+// The fingerprint of a file's constraint.
+pub fn fingerprint(file: &[u8]) -> Answer
+    ensures { λ r. ⌜ r ≡ answered printOf (readFile (now (file .entry))) ⌝ }
+{
+    let mut starts = [0usize; 256];
+    let r = test_file(file, &mut starts);
+    if r != 0 {
+        return Answer::Refused(r);
+    }
+    let last = constraint_count(file) - 1;
+    let h = constraint::fingerprint(nodes_of(file), constraints_of(file), &starts, last);
+    Answer::Value(h as u64)
+}
