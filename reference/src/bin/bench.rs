@@ -3,6 +3,8 @@
 //! Both sides take turns over the rounds. Each time is the median of the rounds, and the ratio is the median of the
 //! rounds' ratios, so that a disturbance of the machine in one round does not count.
 
+use reference::generate::{self, Shape};
+use reference::house;
 use reference::port;
 use reference::splitmix::SplitMix64;
 use reference::standins::{self, Complex64};
@@ -111,6 +113,31 @@ mod called {
     }
 }
 
+/// Reading files: the Rust side builds trees, the port tests the records where they lie.
+fn reading() {
+    let mut rng = SplitMix64::new(2);
+    let small: Vec<Vec<u8>> = (0..200)
+        .map(|_| {
+            let shape = Shape::small(&mut rng);
+            generate::problem(&mut rng, &shape).to_file()
+        })
+        .collect();
+    let largest = vec![generate::largest().to_file(); 20];
+    for (name, files) in [("read, small", small), ("read, largest", largest)] {
+        let rust = || {
+            for file in &files {
+                black_box(house::read_file(file).is_ok());
+            }
+        };
+        let port = || {
+            for file in &files {
+                black_box(port::read(file));
+            }
+        };
+        line(name, files.len(), rust, port);
+    }
+}
+
 fn main() {
     let mut rng = SplitMix64::new(1);
     let mut many = |lo: f64, hi: f64| -> Vec<f64> {
@@ -151,4 +178,5 @@ fn main() {
     };
     binary("complex exp", &pairs, rust_exp, port::complex_exp);
     binary("complex ln", &pairs, rust_ln, port::complex_ln);
+    reading();
 }
