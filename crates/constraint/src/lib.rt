@@ -1,7 +1,7 @@
 // Constraints (constraint.rs) as records in postorder (document 01, "The file"): their tests, the number of variables, and the comparisons.
 use tree::Appended;
 ghost use mathlib.Core.Path.{_≡_};
-ghost use Prim.Native.Nat.{ℕ, max, _+_, _*_, _≤_, _<_};
+ghost use Prim.Native.Nat.{ℕ, _+_, _*_, _≤_, _<_};
 ghost use mathlib.Core.List.{List};
 ghost use lib.ListN.{length, getD, take, drop};
 ghost use lib.Seq.{sets};

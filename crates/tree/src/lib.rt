@@ -261,42 +261,36 @@ struct Operands {
     y: Sized,
 }
 
+fn refused(refusal: u8) -> Operands
+    ensures { λ r. ⌜ r .refusal ≡ refusal ⌝ }
+{
+    let none = Sized { size: 0, depth: 0 };
+    Operands {
+        refusal,
+        x: none,
+        y: none,
+    }
+}
+
 // The list's own tests, then 3 unless x and y name nodes.
 fn measure_operands(nodes: &[u8], count: usize, x: usize, y: usize) -> Operands
     ensures { λ r. ⌜ r .refusal ≡ operandsRefusal (now (nodes .entry)) count x y ⌝ }
     ensures { λ r. ⌜ (r .refusal ≡ 0 → Measured (treeAt (now (nodes .entry)) x) (r .x) × Measured (treeAt (now (nodes .entry)) y) (r .y)) ⌝ }
 {
-    let none = Sized { size: 0, depth: 0 };
     if !nodes_fit(nodes.len(), count) {
-        return Operands {
-            refusal: 2,
-            x: none,
-            y: none,
-        };
+        return refused(2);
     }
     let mut size = [0usize; 1024];
     let mut depth = [0usize; 1024];
     let r = test_nodes(nodes, count, &mut size, &mut depth);
     if r != 0 {
-        return Operands {
-            refusal: r,
-            x: none,
-            y: none,
-        };
+        return refused(r);
     }
     if count <= x {
-        return Operands {
-            refusal: 3,
-            x: none,
-            y: none,
-        };
+        return refused(3);
     }
     if count <= y {
-        return Operands {
-            refusal: 3,
-            x: none,
-            y: none,
-        };
+        return refused(3);
     }
     let a = Sized {
         size: size[x],
