@@ -1,5 +1,7 @@
 //! The exported functions of the proved port, as safe calls.
 
+use crate::smt::interval::PropResult;
+
 mod raw {
     extern "C" {
         pub fn eml_exp(x: f64) -> f64;
@@ -69,6 +71,46 @@ mod raw {
             y: usize,
             out: *mut u8,
             room: usize,
+        ) -> u8;
+        pub fn eml_eval_real(
+            nodes: *const u8,
+            length: usize,
+            node: usize,
+            point: *const f64,
+            values: usize,
+            kind: *mut u8,
+            value: *mut f64,
+            index: *mut usize,
+            count: *mut usize,
+        ) -> u8;
+        pub fn eml_check(
+            nodes: *const u8,
+            nodes_length: usize,
+            constraints: *const u8,
+            constraints_length: usize,
+            point: *const f64,
+            values: usize,
+            passes: *mut bool,
+        ) -> u8;
+        pub fn eml_residual(
+            nodes: *const u8,
+            nodes_length: usize,
+            constraints: *const u8,
+            constraints_length: usize,
+            point: *const f64,
+            values: usize,
+            out: *mut f64,
+        ) -> u8;
+        pub fn eml_propagate(
+            nodes: *const u8,
+            nodes_length: usize,
+            constraints: *const u8,
+            constraints_length: usize,
+            lo: *mut f64,
+            lo_length: usize,
+            hi: *mut f64,
+            hi_length: usize,
+            answer: *mut u8,
         ) -> u8;
         pub fn eml_interval_is_empty(lo: f64, hi: f64) -> bool;
         pub fn eml_interval_width(lo: f64, hi: f64) -> f64;
@@ -176,6 +218,105 @@ macro_rules! file_call {
 
 file_call!(num_vars, eml_num_vars);
 file_call!(fingerprint, eml_fingerprint);
+
+/// A node's value at a point, or the error.
+#[derive(Clone, Copy, Debug)]
+pub enum Evaluated {
+    Value(f64),
+    VarOutOfBounds(usize, usize),
+    NanEncountered,
+    ComplexResult(f64),
+}
+
+pub fn eval_real(nodes: &[u8], node: usize, point: &[f64]) -> Result<Evaluated, Refusal> {
+    let (mut kind, mut value, mut index, mut count) = (255, 0.0, 0, 0);
+    let number = unsafe {
+        raw::eml_eval_real(
+            nodes.as_ptr(),
+            nodes.len(),
+            node,
+            point.as_ptr(),
+            point.len(),
+            &mut kind,
+            &mut value,
+            &mut index,
+            &mut count,
+        )
+    };
+    assert_eq!(number == 0, kind != 255);
+    let answer = match kind {
+        0 => Evaluated::Value(value),
+        1 => Evaluated::VarOutOfBounds(index, count),
+        2 => Evaluated::NanEncountered,
+        _ => Evaluated::ComplexResult(value),
+    };
+    refused_unless_zero(number, answer)
+}
+
+/// Whether a point passes the check.
+pub fn check(nodes: &[u8], constraints: &[u8], point: &[f64]) -> Result<bool, Refusal> {
+    let mut passes = false;
+    let number = unsafe {
+        raw::eml_check(
+            nodes.as_ptr(),
+            nodes.len(),
+            constraints.as_ptr(),
+            constraints.len(),
+            point.as_ptr(),
+            point.len(),
+            &mut passes,
+        )
+    };
+    refused_unless_zero(number, passes)
+}
+
+/// A point's residual.
+pub fn residual(nodes: &[u8], constraints: &[u8], point: &[f64]) -> Result<f64, Refusal> {
+    let mut out = -1.0;
+    let number = unsafe {
+        raw::eml_residual(
+            nodes.as_ptr(),
+            nodes.len(),
+            constraints.as_ptr(),
+            constraints.len(),
+            point.as_ptr(),
+            point.len(),
+            &mut out,
+        )
+    };
+    assert_eq!(number == 0, out != -1.0);
+    refused_unless_zero(number, out)
+}
+
+/// Narrows boxes, given by their lower and upper ends.
+pub fn propagate(
+    nodes: &[u8],
+    constraints: &[u8],
+    lo: &mut [f64],
+    hi: &mut [f64],
+) -> Result<PropResult, Refusal> {
+    let mut answer = 255;
+    let number = unsafe {
+        raw::eml_propagate(
+            nodes.as_ptr(),
+            nodes.len(),
+            constraints.as_ptr(),
+            constraints.len(),
+            lo.as_mut_ptr(),
+            lo.len(),
+            hi.as_mut_ptr(),
+            hi.len(),
+            &mut answer,
+        )
+    };
+    assert_eq!(number == 0, answer != 255);
+    let result = match answer {
+        0 => PropResult::Changed,
+        1 => PropResult::Stable,
+        _ => PropResult::Conflict,
+    };
+    refused_unless_zero(number, result)
+}
 
 /// Appends the nodes of ln x to a list of `count` nodes; the number of the last one.
 pub fn canonical_ln(nodes: &mut [u8], count: usize, x: usize) -> Result<usize, Refusal> {

@@ -3,4 +3,6 @@
 mod canonical;
 mod intervals;
 mod mathematics;
+mod narrowing;
+mod points;
 mod reading;

@@ -1,17 +1,18 @@
 -- The steps of the loops over boxes, over plain values. Assumes nothing.
 use Prim.Native.Nat.{ℕ, _+_, _<_, _≤_}
 use mathlib.Core.Path.{_≡_, sym, ap, _∙_}
-use mathlib.Core.Bool.{Bool, true, false, _||_}
+use mathlib.Core.Bool.{Bool, true, false, _&&_, _||_}
 use mathlib.Core.List.{List, _∷_}
 use native.Mathlib.Nat.{le-antisymm}
 use native.Mathlib.Numerals.{add-one}
 use native.Mathlib.Omega.{arith}
-use lib.Ieee.{Float, nan}
+use lib.Ieee.{Float, nan, binary64}
 use lib.ListN.{length, getD, set, take, drop, drop-of-length-le}
 use lib.Seq.{take-suc-set, take-all, drop-cons, getD-take, length-take-le}
+use Rattle.number.specs.Halving.{sound}
 use Rattle.interval.specs.Interval.{_‥_, isEmpty}
-use Rattle.interval.specs.Boxes.{intervals, missing, starting, anyEmpty}
-use Rattle.interval.specs.BoxLaws.{intervals-at, first-length, first-set, starting-more}
+use Rattle.interval.specs.Boxes.{intervals, missing, starting, anyEmpty, allSound}
+use Rattle.interval.specs.BoxLaws.{intervals-at, intervals-length, first-at, first-length, first-set, starting-more}
 use Rattle.interval.specs.declared.Interval.{Interval}
 
 module _ (n i : ℕ) (lo hi : List Float) (p : length lo ≡ 16) (q : length hi ≡ 16) (h : n ≤ 16) where
@@ -31,11 +32,8 @@ module _ (n i : ℕ) (lo hi : List Float) (p : length lo ≡ 16) (q : length hi 
   -- box i is read
   rest : i < n → drop i (intervals (take n lo) (take n hi)) ≡ (getD lo i nan ‥ getD hi i nan) ∷ drop (i + 1) (intervals (take n lo) (take n hi))
   rest l =
-      let x = length-take-le n lo (omega arith) in
-      let y = length-take-le n hi (omega arith) in
-      let a = intervals-at (take n lo) (take n hi) i missing (y ∙ sym x) (omega arith) in
       drop-cons (intervals (take n lo) (take n hi)) i missing (omega (arith, first-length n lo hi (omega arith) (q ∙ sym p)))
-      ∙ rw (add-one i, ← a, getD-take n lo i nan l, getD-take n hi i nan l)
+      ∙ rw (add-one i, ← first-at n lo hi i missing (omega arith) (q ∙ sym p) l)
 
   pub empty-here : {t : Bool} → i < n → anyEmpty (drop i (intervals (take n lo) (take n hi))) ≡ t → isEmpty (getD lo i nan ‥ getD hi i nan) ≡ true → true ≡ t
   unfolding anyEmpty
@@ -49,3 +47,23 @@ module _ (n i : ℕ) (lo hi : List Float) (p : length lo ≡ 16) (q : length hi 
   pub empty-none : {t : Bool} → n ≤ i → anyEmpty (drop i (intervals (take n lo) (take n hi))) ≡ t → false ≡ t
   unfolding anyEmpty
   empty-none l e = sym (ap anyEmpty (drop-of-length-le (intervals (take n lo) (take n hi)) {i = i} (omega (arith, first-length n lo hi (omega arith) (q ∙ sym p))))) ∙ e
+
+-- ---- each box of two lists sound
+module _ (lo hi : List Float) (i : ℕ) (e : length hi ≡ length lo) {t : Bool} (inv : allSound (drop i (intervals lo hi)) ≡ t) where
+  from : i < length lo → drop i (intervals lo hi) ≡ (getD lo i nan ‥ getD hi i nan) ∷ drop (i + 1) (intervals lo hi)
+  from l =
+      drop-cons (intervals lo hi) i missing (omega (arith, intervals-length lo hi e))
+      ∙ rw (add-one i, ← intervals-at lo hi i missing e l)
+
+  module _ {v : Interval} (l : i < length lo) (w : v ≡ (getD lo i nan ‥ getD hi i nan)) where
+    pub unsound-here : sound binary64 (v .lo) (v .hi) ≡ false → false ≡ t
+    unfolding allSound
+    unsound-here s = sym (ap allSound (from l) ∙ ap (λ (x : Interval). sound binary64 (x .lo) (x .hi) && allSound (drop (i + 1) (intervals lo hi))) (sym w) ∙ ap (λ (x : Bool). x && allSound (drop (i + 1) (intervals lo hi))) s) ∙ inv
+
+    pub sound-here : sound binary64 (v .lo) (v .hi) ≡ true → allSound (drop (i + 1) (intervals lo hi)) ≡ t
+    unfolding allSound
+    sound-here s = sym (ap allSound (from l) ∙ ap (λ (x : Interval). sound binary64 (x .lo) (x .hi) && allSound (drop (i + 1) (intervals lo hi))) (sym w) ∙ ap (λ (x : Bool). x && allSound (drop (i + 1) (intervals lo hi))) s) ∙ inv
+
+  pub all-sound : length lo ≤ i → true ≡ t
+  unfolding allSound
+  all-sound l = sym (ap allSound (drop-of-length-le (intervals lo hi) {i = i} (omega (arith, intervals-length lo hi e)))) ∙ inv

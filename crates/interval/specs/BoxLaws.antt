@@ -5,7 +5,7 @@ use mathlib.Core.List.{List, [], _∷_, _++_}
 use native.Mathlib.Nat.{le-of-suc-le-suc, not-suc-le-zero}
 use native.Mathlib.Omega.{arith}
 use lib.ListN.{length, getD, set, take}
-use lib.Seq.{length-take-le, take-set-lt}
+use lib.Seq.{length-take-le, take-set-lt, getD-take}
 use lib.Ieee.{Float, nan}
 use Rattle.interval.specs.Interval.{_‥_}
 use Rattle.interval.specs.Boxes.{intervals, missing, starting}
@@ -51,6 +51,12 @@ first-length n lo hi h e =
     let l = length-take-le n lo h in
     intervals-length (take n lo) (take n hi) (length-take-le n hi (omega arith) ∙ sym l) ∙ l
 
+pub first-at : (n : ℕ) (lo hi : List Float) (j : ℕ) (d : Interval) → n ≤ length lo → length hi ≡ length lo → j < n → (getD lo j nan ‥ getD hi j nan) ≡ getD (intervals (take n lo) (take n hi)) j d
+first-at n lo hi j d h e l =
+    let x = length-take-le n lo h in
+    let y = length-take-le n hi (omega arith) in
+    rw (← getD-take n lo j nan l, ← getD-take n hi j nan l) (intervals-at (take n lo) (take n hi) j d (y ∙ sym x) (omega arith))
+
 pub first-set : (n : ℕ) (lo hi : List Float) (j : ℕ) (a b : Float) → j < n → intervals (take n (set lo j a)) (take n (set hi j b)) ≡ set (intervals (take n lo) (take n hi)) j (a ‥ b)
 first-set n lo hi j a b h = rw (take-set-lt n lo j a h, take-set-lt n hi j b h) (intervals-set (take n lo) (take n hi) j a b)
 
@@ -66,3 +72,9 @@ unfolding starting
 starting-length zero bounds = refl
 starting-length (suc n) [] = ap suc (starting-length n [])
 starting-length (suc n) (b ∷ bounds) = ap suc (starting-length n bounds)
+
+-- as many as there are bounds
+pub starting-all : (bounds : List Interval) → starting (length bounds) bounds ≡ bounds
+unfolding starting
+starting-all [] = refl
+starting-all (b ∷ bounds) = ap (λ (r : List Interval). b ∷ r) (starting-all bounds)

@@ -1,10 +1,12 @@
 -- Boxes: a list of intervals, one for each variable.
 use Prim.Native.Nat.{ℕ, zero, suc}
-use mathlib.Core.Bool.{Bool, false, _||_}
+use mathlib.Core.Bool.{Bool, true, false, _&&_, _||_}
 use mathlib.Core.List.{List, [], _∷_}
 use lib.IntN.{negsuc}
-use lib.Ieee.{Float}
-use lib.ListN.{take}
+use lib.Dec.{leb, eqb}
+use lib.Ieee.{Float, binary64}
+use lib.ListN.{length, take}
+use Rattle.number.specs.Halving.{sound}
 use Rattle.number.specs.Notation.{whole, integer}
 use Rattle.interval.specs.Interval.{_‥_, isEmpty}
 use Rattle.interval.specs.declared.Interval.{Interval}
@@ -34,3 +36,11 @@ intervals (l ∷ ls) (h ∷ hs) = (l ‥ h) ∷ intervals ls hs
 -- the first `count` of each
 unfoldable pub boxesOf : Boxes → List Interval
 boxesOf b = intervals (take (b .count) (b .lo)) (take (b .count) (b .hi))
+
+-- ---- the boxes that a call takes: over 16, or an unsound one, is document 01's 9. So is a box that lacks an end.
+unfoldable pub allSound : List Interval → Bool
+allSound [] = true
+allSound (i ∷ is) = sound binary64 (i .lo) (i .hi) && allSound is
+
+unfoldable pub areBoxes : List Float → List Float → Bool
+areBoxes lo hi = eqb (length lo) (length hi) && leb (length lo) 16 && allSound (intervals lo hi)

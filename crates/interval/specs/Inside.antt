@@ -37,8 +37,13 @@ pub record Inside (old new : Interval) : Type 0 where
   pub hi : T (new .hi ≼ old .hi)
   pub ordered : T (new .lo ≼ new .hi)
 
+-- a sound range (document 01, "The file")
 abbrev pub isSound : Interval → Bool
 isSound i = sound binary64 (i .lo) (i .hi)
+
+pub record Sound (i : Interval) : Type 0 where
+  pub range : T (isSound i)
+  pub ends : Ends i
 
 -- ---- one inside another
 pub inside-refl : (i : Interval) → T (i .lo ≼ i .hi) → Inside i i
@@ -47,16 +52,26 @@ inside-refl i h = record { lo = le-refl (i .lo) (le-left (i .lo) (i .hi) h); hi 
 pub inside-trans : (i j k : Interval) → Inside i j → Inside j k → Inside i k
 inside-trans i j k a b = record { lo = le-trans (i .lo) (j .lo) (k .lo) (a .lo) (b .lo); hi = le-trans (k .hi) (j .hi) (i .hi) (b .hi) (a .hi); ordered = b .ordered }
 
-pub inside-sound : (i j : Interval) → Inside i j → T (isSound i) → T (isSound j)
-inside-sound i j a h = part-sound binary64 (i .lo) (j .lo) (j .hi) (i .hi) h (a .lo) (a .ordered) (a .hi)
+pub sound-proper : (i : Interval) → Sound i → Proper i
+sound-proper i s = record { ordered = sound-le binary64 (i .lo) (i .hi) (s .range); ends = s .ends }
+
+pub inside-sound : (i j : Interval) → Inside i j → Ends j → Sound i → Sound j
+inside-sound i j a e s = record { range = part-sound binary64 (i .lo) (j .lo) (j .hi) (i .hi) (s .range) (a .lo) (a .ordered) (a .hi); ends = e }
 
 -- ---- the midpoint and the halves of a sound interval
-module _ (i : Interval) (e : Ends i) (h : T (isSound i)) where
+pub midpoint-held : (i : Interval) → Held (midpoint i)
+unfolding midpoint
+midpoint-held i = div-fits binary64 _ _
+
+module _ (i : Interval) (s : Sound i) where
   above : T (i .lo ≼ mid binary64 (i .lo) (i .hi))
-  above = lo≤mid binary64 (i .lo) (i .hi) (e .lo) (sound-lo binary64 (i .lo) (i .hi) h) (sound-hi binary64 (i .lo) (i .hi) h) (sound-le binary64 (i .lo) (i .hi) h)
+  above = lo≤mid binary64 (i .lo) (i .hi) (s .ends .lo) (sound-lo binary64 (i .lo) (i .hi) (s .range)) (sound-hi binary64 (i .lo) (i .hi) (s .range)) (sound-le binary64 (i .lo) (i .hi) (s .range))
 
   below : T (mid binary64 (i .lo) (i .hi) ≼ i .hi)
-  below = mid≤hi binary64 (i .lo) (i .hi) (e .hi) (sound-lo binary64 (i .lo) (i .hi) h) (sound-hi binary64 (i .lo) (i .hi) h) (sound-le binary64 (i .lo) (i .hi) h)
+  below = mid≤hi binary64 (i .lo) (i .hi) (s .ends .hi) (sound-lo binary64 (i .lo) (i .hi) (s .range)) (sound-hi binary64 (i .lo) (i .hi) (s .range)) (sound-le binary64 (i .lo) (i .hi) (s .range))
+
+  self : Inside i i
+  self = inside-refl i (sound-le binary64 (i .lo) (i .hi) (s .range))
 
   pub midpoint-inside : T (contains i (midpoint i))
   unfolding contains midpoint ofInt
@@ -64,23 +79,17 @@ module _ (i : Interval) (e : Ends i) (h : T (isSound i)) where
 
   pub lower-inside : Inside i (split i .lower)
   unfolding split midpoint ofInt
-  lower-inside = record { lo = inside-refl i (sound-le binary64 (i .lo) (i .hi) h) .lo; hi = below; ordered = above }
+  lower-inside = record { lo = self .lo; hi = below; ordered = above }
 
   pub upper-inside : Inside i (split i .upper)
   unfolding split midpoint ofInt
-  upper-inside = record { lo = above; hi = inside-refl i (sound-le binary64 (i .lo) (i .hi) h) .hi; ordered = below }
+  upper-inside = record { lo = above; hi = self .hi; ordered = below }
 
-pub midpoint-held : (i : Interval) → Held (midpoint i)
-unfolding midpoint
-midpoint-held i = div-fits binary64 _ _
+  pub lower-sound : Sound (split i .lower)
+  lower-sound = inside-sound i (split i .lower) lower-inside (unfold split in record { lo = s .ends .lo; hi = midpoint-held i }) s
 
-pub lower-ends : (i : Interval) → Ends i → Ends (split i .lower)
-unfolding split
-lower-ends i e = record { lo = e .lo; hi = midpoint-held i }
-
-pub upper-ends : (i : Interval) → Ends i → Ends (split i .upper)
-unfolding split
-upper-ends i e = record { lo = midpoint-held i; hi = e .hi }
+  pub upper-sound : Sound (split i .upper)
+  upper-sound = inside-sound i (split i .upper) upper-inside (unfold split in record { lo = midpoint-held i; hi = s .ends .hi }) s
 
 -- ---- an interval that is not empty
 pub not-empty : (i : Interval) → T (not (isEmpty i)) → T (i .lo ≼ i .hi)
@@ -189,11 +198,15 @@ narrower-refl b g = record { inside = each-refl b g; proper = g }
 pub narrower-trans : (a b c : List Interval) → Narrower a b → Narrower b c → Narrower a c
 narrower-trans a b c p q = record { inside = each-trans a b c (p .inside) (q .inside); proper = q .proper }
 
-pub each-sound : (b r : List Interval) → EachInside b r → Each (λ i. T (isSound i)) b → Each (λ i. T (isSound i)) r
-each-sound [] [] p h = tt
-each-sound [] (j ∷ js) p h = absurd p
-each-sound (i ∷ is) [] p h = absurd p
-each-sound (i ∷ is) (j ∷ js) p h = (inside-sound i j (p .0) (h .0), each-sound is js (p .1) (h .1))
+pub each-proper : (b : List Interval) → Each Sound b → Each Proper b
+each-proper [] h = tt
+each-proper (i ∷ is) h = (sound-proper i (h .0), each-proper is (h .1))
+
+pub each-sound : (b r : List Interval) → EachInside b r → Each Proper r → Each Sound b → Each Sound r
+each-sound [] [] p q h = tt
+each-sound [] (j ∷ js) p q h = absurd p
+each-sound (i ∷ is) [] p q h = absurd p
+each-sound (i ∷ is) (j ∷ js) p q h = (inside-sound i j (p .0) (q .0 .ends) (h .0), each-sound is js (p .1) (q .1) (h .1))
 
 missing-proper : Proper missing
 unfolding missing ofInt fits le

@@ -4,7 +4,7 @@ ghost use Prim.Native.Nat.{_≤_};
 ghost use lib.ListN.{length, getD};
 ghost use lib.Ieee.Scale.{finite};
 ghost use Rattle.interval.specs.Interval.{_‥_, isEmpty, width, midpoint, contains, split, intersect, hull, exp, hasLn, ln};
-ghost use Rattle.interval.specs.Boxes.{intervals, boxesOf, missing, starting, anyEmpty};
+ghost use Rattle.interval.specs.Boxes.{intervals, boxesOf, missing, starting, anyEmpty, allSound, areBoxes};
 
 pub struct Interval {
     pub lo: f64,
@@ -137,6 +137,35 @@ pub fn box_at(lo: &[f64], hi: &[f64], i: usize) -> Interval
         return Interval::new(lo[i], hi[i]);
     }
     Interval::new(-10.0, 10.0)
+}
+
+fn all_sound(lo: &[f64], hi: &[f64]) -> bool
+    requires { ⌜ length (now hi) ≡ length (now lo) ⌝ }
+    ensures { λ r. ⌜ r ≡ allSound (intervals (now (lo .entry)) (now (hi .entry))) ⌝ }
+{
+    let mut i: usize = 0;
+    while i < lo.len() {
+        let v = Interval::new(lo[i], hi[i]);
+        if number::is_sound(v.lo, v.hi) {
+            i += 1;
+        } else {
+            return false;
+        }
+    }
+    true
+}
+
+// Whether a caller's two lists are boxes: as many ends of each kind, at most 16, and each box sound.
+pub fn are_boxes(lo: &[f64], hi: &[f64]) -> bool
+    ensures { λ r. ⌜ r ≡ areBoxes (now (lo .entry)) (now (hi .entry)) ⌝ }
+{
+    if lo.len() != hi.len() {
+        return false;
+    }
+    if 16 < lo.len() {
+        return false;
+    }
+    all_sound(lo, hi)
 }
 
 // A list of at most 16 boxes by value (IntervalDomain of interval.rs): the first `count` ends of each kind.

@@ -10,26 +10,8 @@ use denote.Ref.{now}
 use Rattle.interval.specs.Boxes.{intervals, missing}
 use Rattle.interval.specs.BoxLaws.{intervals-at, intervals-short}
 
-mul-new : tie.Need-mul-new
-mul-new c = search needs
-
-shared-slice-read-new : tie.Need-shared-slice-read-new
-shared-slice-read-new c = search needs
-
-mul-new-2 : tie.Need-mul-new-2
-mul-new-2 c = search needs
-
-shared-slice-read-new-2 : tie.Need-shared-slice-read-new-2
-shared-slice-read-new-2 c = search needs
-
-new-requires : tie.Need-new-requires
-new-requires c κs = search needs
-
 returns : tie.Need-returns
 returns c = c .new .ensures ∙ intervals-at _ _ _ _ (c .before .before .before .before .before .before .pre) (c .before .before .before .if1 .taken)
-
-new-requires-2 : tie.Need-new-requires-2
-new-requires-2 c κs = search needs
 
 returns-2 : tie.Need-returns-2
 unfolding missing ofBits ofInt neg
@@ -39,11 +21,11 @@ pub box-at-spec : {M : Type 1} → statement M
 box-at-spec =
     tie.close
     (tie.spec
-    mul-new
-    shared-slice-read-new
-    mul-new-2
-    shared-slice-read-new-2
-    new-requires
+    (λ c. search needs)
+    (λ c. search needs)
+    (λ c. search needs)
+    (λ c. search needs)
+    (λ c κs. search needs)
     returns
-    new-requires-2
+    (λ c κs. search needs)
     returns-2)

@@ -22,24 +22,6 @@ loop-holds c = (omega arith, refl, refl, refl, refl)
 box-at-requires : tie.Need-box-at-requires Inv-loop μ-loop
 box-at-requires c κs = c .before .before .before .before .pre .0
 
-mul-out : tie.Need-mul-out Inv-loop μ-loop
-mul-out c = omega arith
-
-element-write-out : tie.Need-element-write-out Inv-loop μ-loop
-element-write-out c = omega arith
-
-mul-out-2 : tie.Need-mul-out-2 Inv-loop μ-loop
-mul-out-2 c = omega arith
-
-element-write-out-2 : tie.Need-element-write-out-2 Inv-loop μ-loop
-element-write-out-2 c = omega arith
-
-add-i : tie.Need-add-i Inv-loop μ-loop
-add-i c = omega arith
-
-loop-less : tie.Need-loop-less Inv-loop μ-loop
-loop-less c = omega arith
-
 loop-again : tie.Need-loop-again Inv-loop μ-loop
 unfolding boxesOf
 loop-again c = let p = c .before .before .loop .inv in (omega arith, p .1, length-set (c .before .before .loop .out .lo) _ _ ∙ p .2, length-set (c .before .before .loop .out .hi) _ _ ∙ p .3, starting-next (c .before .before .loop .out .count) (c .before .before .loop .i) _ _ (p .2) (p .3) (omega arith) _ _ (omega arith) (p .4) (c .box-at .ensures))
@@ -56,11 +38,11 @@ new-spec =
     μ-loop
     loop-holds
     box-at-requires
-    mul-out
-    element-write-out
-    mul-out-2
-    element-write-out-2
-    add-i
-    loop-less
+    (λ c. omega arith)
+    (λ c. omega arith)
+    (λ c. omega arith)
+    (λ c. omega arith)
+    (λ c. omega arith)
+    (λ c. omega arith)
     loop-again
     returns)

@@ -5,15 +5,9 @@ use Rattle.interval.proofs.Interval.has_ln.Tie as tie
 use Rattle.number.specs.Literals.{zero-is}
 use Rattle.interval.specs.Interval.{hasLn}
 
-is-finite-requires : tie.Need-is-finite-requires
-is-finite-requires c κs = search needs
-
-is-finite-requires-2 : tie.Need-is-finite-requires-2
-is-finite-requires-2 c κs = search needs
-
 returns : tie.Need-returns
 unfolding hasLn
 returns c = cc (zero-is)
 
 pub has-ln-spec : {M : Type 1} → statement M
-has-ln-spec = tie.close (tie.spec is-finite-requires is-finite-requires-2 returns)
+has-ln-spec = tie.close (tie.spec (λ c κs. search needs) (λ c κs. search needs) returns)

@@ -7,21 +7,6 @@ use Rattle.number.specs.Literals.{infinite, minus-infinite}
 use Rattle.interval.specs.Interval.{ln}
 use Rattle.number.specs.Notation.{if_then_else_}
 
-has-ln-requires : tie.Need-has-ln-requires
-has-ln-requires c κs = search needs
-
-ln-requires : tie.Need-ln-requires
-ln-requires c κs = search needs
-
-ln-requires-2 : tie.Need-ln-requires-2
-ln-requires-2 c κs = search needs
-
-new-requires : tie.Need-new-requires
-new-requires c κs = search needs
-
-new-requires-2 : tie.Need-new-requires-2
-new-requires-2 c κs = search needs
-
 returns : tie.Need-returns
 unfolding ln if_then_else_
 returns c = simp (sym (c .before .before .before .before .has-ln .ensures) ∙ c .before .before .before .if1 .taken, c .new .ensures, c .before .ln2 .ensures, c .before .before .ln .ensures)
@@ -34,10 +19,10 @@ pub ln-spec : {M : Type 1} → statement M
 ln-spec =
     tie.close
     (tie.spec
-    has-ln-requires
-    ln-requires
-    ln-requires-2
-    new-requires
-    new-requires-2
+    (λ c κs. search needs)
+    (λ c κs. search needs)
+    (λ c κs. search needs)
+    (λ c κs. search needs)
+    (λ c κs. search needs)
     returns
     returns-2)

@@ -1,0 +1,38 @@
+-- `eml_propagate` meets its contract: the answer as numbers, the ends as the call left them. Assumes nothing.
+use mathlib.Core.Path.{ap}
+use Rattle.narrow.specs.Given.{Outcome}
+use Rattle.eml.specs.Narrowed.{propagating}
+use borrow.Author.Needs.{needs}
+use Rattle.eml.proofs.narrowing.eml_propagate.Statement.{statement}
+use Rattle.eml.proofs.narrowing.eml_propagate.Tie as tie
+
+propagate-given-requires : tie.Need-propagate-given-requires
+propagate-given-requires c κs = search needs
+
+result-or-requires : tie.Need-result-or-requires
+result-or-requires c κs = search needs
+
+propagated-number-requires : tie.Need-propagated-number-requires
+propagated-number-requires c κs = search needs
+
+same-length : tie.Need-same-length
+same-length c = search needs
+
+same-length-2 : tie.Need-same-length-2
+same-length-2 c = search needs
+
+returns : tie.Need-returns
+returns c =
+    let s = c .before .before .before .before .before .before .before .before .before .before .before .before .before .before in
+    rw (c .propagated-number .ensures, c .before .result-or .ensures) (ap (λ (x : Outcome). propagating x (s .args .answer .now)) (c .before .before .before .before .before .before .before .propagate-given .ensures))
+
+pub eml-propagate-spec : {M : Type 1} → statement M
+eml-propagate-spec =
+    tie.close
+    (tie.spec
+    propagate-given-requires
+    result-or-requires
+    propagated-number-requires
+    same-length
+    same-length-2
+    returns)

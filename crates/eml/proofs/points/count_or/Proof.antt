@@ -1,0 +1,37 @@
+-- `count_or` meets its contract. Assumes nothing.
+use borrow.Author.Needs.{needs}
+use Rattle.eml.proofs.points.count_or.Statement.{statement}
+use Rattle.eml.proofs.points.count_or.Tie as tie
+
+enum-told : tie.Need-enum-told
+enum-told c = search needs
+
+enum-told-2 : tie.Need-enum-told-2
+enum-told-2 c = search needs
+
+enum-known-answer : tie.Need-enum-known-answer
+enum-known-answer c = search needs
+
+error-count-or-requires : tie.Need-error-count-or-requires
+error-count-or-requires c κs = search needs
+
+returns : tie.Need-returns
+returns c = search needs
+
+returns-2 : tie.Need-returns-2
+returns-2 c = search needs
+
+returns-3 : tie.Need-returns-3
+returns-3 c = rw (c .before .before .answer .given .1) (c .error-count-or .ensures)
+
+pub count-or-spec : {M : Type 1} → statement M
+count-or-spec =
+    tie.close
+    (tie.spec
+    enum-told
+    enum-told-2
+    enum-known-answer
+    error-count-or-requires
+    returns
+    returns-2
+    returns-3)

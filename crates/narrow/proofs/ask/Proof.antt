@@ -1,0 +1,31 @@
+-- `narrow::ask` meets its contract. Assumes nothing.
+use borrow.Author.Needs.{needs}
+use Rattle.narrow.proofs.ask.Statement.{statement}
+use Rattle.narrow.proofs.ask.Tie as tie
+use mathlib.Core.Path.{sym}
+use Rattle.number.specs.Notation.{if_then_else_}
+use Rattle.narrow.specs.Narrowing.{askOf}
+
+returns : tie.Need-returns
+unfolding askOf if_then_else_
+returns c = simp (sym (c .before .before .is-empty .ensures), sym (c .before .is-empty2 .ensures), c .if1 .taken)
+
+returns-2 : tie.Need-returns-2
+unfolding askOf if_then_else_
+returns-2 c = simp (sym (c .before .before .before .before .before .is-empty .ensures), sym (c .before .before .before .before .is-empty2 .ensures), c .before .before .before .if1 .left, sym (c .before .before .has-ln .ensures), c .before .if2 .taken, c .ask-real .ensures)
+
+returns-3 : tie.Need-returns-3
+unfolding askOf if_then_else_
+returns-3 c = simp (sym (c .before .before .before .before .is-empty .ensures), sym (c .before .before .before .is-empty2 .ensures), c .before .before .if1 .left, sym (c .before .has-ln .ensures), c .if2 .left)
+
+pub ask-spec : {M : Type 1} → statement M
+ask-spec =
+    tie.close
+    (tie.spec
+    (λ c κs. search needs)
+    (λ c κs. search needs)
+    returns
+    (λ c κs. search needs)
+    (λ c κs. search needs)
+    returns-2
+    returns-3)

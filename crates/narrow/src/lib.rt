@@ -1,0 +1,741 @@
+// Narrowing (document 01; interval.rs): a constraint tightens the boxes of its variables, or finds that nothing in them meets it. The
+// boxes are two lent lists of ends.
+use constraint::Record;
+use constraint::Relation;
+use interval::Boxes;
+use interval::Interval;
+use settings::Settings;
+use tree::Node;
+ghost use mathlib.Core.Path.{_≡_};
+ghost use Prim.Native.Nat.{_+_, _≤_};
+ghost use mathlib.Core.List.{List};
+ghost use lib.Ieee.{Float};
+ghost use lib.ListN.{length};
+ghost use Rattle.interval.specs.Interval as Intervals;
+ghost use Rattle.interval.specs.Boxes.{intervals, boxesOf};
+ghost use Rattle.tree.specs.Nodes.{treeAt, Valid};
+ghost use Rattle.narrow.specs.Narrowing.{_leaving_, worseOf, emlInterval, evalInterval, leftOf, askReal, askOf, fixedAt, narrowVar, backward, targetOf, nudgeVar, nudgeTree, narrowAtom, hulls, survive as surviveOf, tightened, adopt as adoptOf, adoptSurvivors, propagate as propagateOf};
+ghost use Rattle.constraint.specs.Records.{constraintAt, gather};
+ghost use Rattle.constraint.specs.Starts.{upTo, Ready, Taken};
+ghost use Rattle.narrow.specs.Modes.{isNegated, underNot, relationIn, isConflict, survivorsOf, pass, passAll, passAny, passInto, passOne};
+ghost use mathlib.Core.Option.{none};
+ghost use Rattle.narrow.specs.Given.{_leaving_and_, propagateGiven};
+
+// What a step of narrowing did.
+pub enum PropResult {
+    Changed,
+    Stable,
+    Conflict,
+}
+
+// Of two steps: Conflict if either met one, else Changed if either changed a box.
+fn worse(first: PropResult, second: PropResult) -> PropResult
+    ensures { λ r. ⌜ r ≡ worseOf first second ⌝ }
+{
+    match first {
+        PropResult::Conflict => PropResult::Conflict,
+        PropResult::Changed => match second {
+            PropResult::Conflict => PropResult::Conflict,
+            PropResult::Changed => PropResult::Changed,
+            PropResult::Stable => PropResult::Changed,
+        },
+        PropResult::Stable => second,
+    }
+}
+
+fn plus(i: Interval, j: Interval) -> Interval
+    ensures { λ r. ⌜ r ≡ Intervals.plus i j ⌝ }
+{
+    Interval::new(i.lo + j.lo, i.hi + j.hi)
+}
+
+fn minus(i: Interval, j: Interval) -> Interval
+    ensures { λ r. ⌜ r ≡ Intervals.minus i j ⌝ }
+{
+    Interval::new(i.lo - j.hi, i.hi - j.lo)
+}
+
+fn moves(slack: f64, old: Interval, new: Interval) -> bool
+    ensures { λ r. ⌜ r ≡ Intervals.moves slack old new ⌝ }
+{
+    (new.lo > old.lo + slack) | (new.hi < old.hi - slack)
+}
+
+// ---- forward
+
+// The interval of a tree's values, where real arithmetic can tell.
+pub enum Values {
+    Within(Interval),
+    Unknown,
+}
+
+// exp(l) - ln(r)
+fn eml_interval(l: Interval, r: Interval) -> Values
+    ensures { λ x. ⌜ x ≡ emlInterval l r ⌝ }
+{
+    if l.is_empty() | r.is_empty() {
+        return Values::Within(Interval::new(1.0 / 0.0, -1.0 / 0.0));
+    }
+    if r.has_ln() {
+        return Values::Within(minus(l.exp(), r.ln()));
+    }
+    Values::Unknown
+}
+
+// Of node k's tree.
+pub fn eval_interval(nodes: &[u8], k: usize, lo: &[f64], hi: &[f64]) -> Values
+    requires { ⌜ Valid (now nodes) (k + 1) × (length (now hi) ≡ length (now lo)) ⌝ }
+    ensures { λ x. ⌜ x ≡ evalInterval (intervals (now (lo .entry)) (now (hi .entry))) (treeAt (now (nodes .entry)) k) ⌝ }
+{
+    match tree::node_in(nodes, k) {
+        Node::One => Values::Within(Interval::new(1.0, 1.0)),
+        Node::Const(v) => Values::Within(Interval::new(v, v)),
+        Node::Var(i) => Values::Within(interval::box_at(lo, hi, i)),
+        Node::Eml(a, b) => {
+            let Values::Within(l) = eval_interval(nodes, a, lo, hi) else {
+                return Values::Unknown;
+            };
+            let Values::Within(r) = eval_interval(nodes, b, lo, hi) else {
+                return Values::Unknown;
+            };
+            eml_interval(l, r)
+        }
+    }
+}
+
+// ---- backward
+
+// What an Eml node asks of its children, or answers at once.
+pub enum Demand {
+    Answer(PropResult),
+    Ask(Interval, Interval),
+}
+
+// Where exp(left) is to lie in `range`, what left, which lies in l, is to lie in.
+fn left_of(l: Interval, range: Interval) -> Interval
+    ensures { λ x. ⌜ x ≡ leftOf l range ⌝ }
+{
+    if range.lo > 0.0 {
+        return l.intersect(range.exp_inv());
+    }
+    l
+}
+
+// The children lie in l and r, where ln(r) is real; exp(left) - ln(right) is to lie in out.
+fn ask_real(l: Interval, r: Interval, out: Interval) -> Demand
+    ensures { λ x. ⌜ x ≡ askReal l r out ⌝ }
+{
+    let exp_l = l.exp();
+    let ln_r = r.ln();
+    let out_c = out.intersect(minus(exp_l, ln_r));
+    if out_c.is_empty() {
+        return Demand::Answer(PropResult::Conflict);
+    }
+    let exp_l_c = exp_l.intersect(plus(out_c, ln_r));
+    if exp_l_c.is_empty() {
+        return Demand::Answer(PropResult::Conflict);
+    }
+    let ln_r_c = ln_r.intersect(minus(exp_l, out_c));
+    if ln_r_c.is_empty() {
+        return Demand::Answer(PropResult::Conflict);
+    }
+    Demand::Ask(left_of(l, exp_l_c), r.intersect(ln_r_c.ln_inv()))
+}
+
+fn ask(l: Interval, r: Interval, out: Interval) -> Demand
+    ensures { λ x. ⌜ x ≡ askOf l r out ⌝ }
+{
+    if l.is_empty() | r.is_empty() {
+        return Demand::Answer(PropResult::Conflict);
+    }
+    if r.has_ln() {
+        return ask_real(l, r, out);
+    }
+    Demand::Answer(PropResult::Stable)
+}
+
+// A node of the one value v is to lie in out.
+fn fixed_at(v: f64, out: Interval) -> PropResult
+    ensures { λ x. ⌜ x ≡ fixedAt v out ⌝ }
+{
+    if out.contains(v) {
+        return PropResult::Stable;
+    }
+    PropResult::Conflict
+}
+
+// Variable i is to lie in out.
+fn narrow_var(
+    settings: Settings,
+    i: usize,
+    out: Interval,
+    lo: &mut [f64],
+    hi: &mut [f64],
+) -> PropResult
+    requires { ⌜ length (now hi) ≡ length (now lo) ⌝ }
+    ensures { λ x. ⌜ (x leaving intervals (now (lo .exit)) (now (hi .exit))) ≡ narrowVar settings i out (intervals (now (lo .entry)) (now (hi .entry))) ⌝ }
+{
+    let old = interval::box_at(lo, hi, i);
+    let new = old.intersect(out);
+    if new.is_empty() {
+        return PropResult::Conflict;
+    }
+    if moves(settings.slack, old, new) {
+        // beyond the list there is nothing to write
+        if lo.len() <= i {
+            return PropResult::Changed;
+        }
+        lo[i] = new.lo;
+        hi[i] = new.hi;
+        return PropResult::Changed;
+    }
+    PropResult::Stable
+}
+
+// Node k's tree is to lie in out. Right is asked what was computed before left wrote, also after left's Conflict.
+pub fn backward_propagate(
+    settings: Settings,
+    nodes: &[u8],
+    k: usize,
+    out: Interval,
+    lo: &mut [f64],
+    hi: &mut [f64],
+) -> PropResult
+    requires { ⌜ Valid (now nodes) (k + 1) × (length (now hi) ≡ length (now lo)) ⌝ }
+    ensures { λ x. ⌜ (x leaving intervals (now (lo .exit)) (now (hi .exit))) ≡ backward settings (treeAt (now (nodes .entry)) k) out (intervals (now (lo .entry)) (now (hi .entry))) ⌝ }
+{
+    if out.is_empty() {
+        return PropResult::Conflict;
+    }
+    match tree::node_in(nodes, k) {
+        Node::One => fixed_at(1.0, out),
+        Node::Const(v) => fixed_at(v, out),
+        Node::Var(i) => narrow_var(settings, i, out, lo, hi),
+        Node::Eml(a, b) => {
+            let Values::Within(l) = eval_interval(nodes, a, lo, hi) else {
+                return PropResult::Stable;
+            };
+            let Values::Within(r) = eval_interval(nodes, b, lo, hi) else {
+                return PropResult::Stable;
+            };
+            match ask(l, r, out) {
+                Demand::Answer(result) => result,
+                Demand::Ask(left, right) => {
+                    let first = backward_propagate(settings, nodes, a, left, lo, hi);
+                    let second = backward_propagate(settings, nodes, b, right, lo, hi);
+                    worse(first, second)
+                }
+            }
+        }
+    }
+}
+
+// ---- one atom
+
+// What an atom asks of its tree's interval, or answers at once. Nudge: an end of a bare variable is to move off zero.
+pub enum Target {
+    Stop(PropResult),
+    Out(Interval),
+    Nudge,
+}
+
+// four times the f64 epsilon
+const EPS: f64 = 8.881784197001252e-16;
+
+fn eq_target(settings: Settings, v: Interval) -> Target
+    ensures { λ r. ⌜ r ≡ targetOf settings Relation.EqZero v ⌝ }
+{
+    if (v.lo > 0.0) | (v.hi < 0.0) {
+        return Target::Stop(PropResult::Conflict);
+    }
+    Target::Out(Interval::new(0.0, 0.0))
+}
+
+fn gt_target(settings: Settings, v: Interval) -> Target
+    ensures { λ r. ⌜ r ≡ targetOf settings Relation.GtZero v ⌝ }
+{
+    if v.hi <= 0.0 {
+        return Target::Stop(PropResult::Conflict);
+    }
+    Target::Out(Interval::new(number::max(v.lo, EPS), v.hi))
+}
+
+fn ge_target(settings: Settings, v: Interval) -> Target
+    ensures { λ r. ⌜ r ≡ targetOf settings Relation.GeZero v ⌝ }
+{
+    if v.hi < 0.0 {
+        return Target::Stop(PropResult::Conflict);
+    }
+    Target::Out(Interval::new(number::max(v.lo, 0.0), v.hi))
+}
+
+fn lt_target(settings: Settings, v: Interval) -> Target
+    ensures { λ r. ⌜ r ≡ targetOf settings Relation.LtZero v ⌝ }
+{
+    if v.lo >= 0.0 {
+        return Target::Stop(PropResult::Conflict);
+    }
+    Target::Out(Interval::new(v.lo, number::min(v.hi, -EPS)))
+}
+
+fn le_target(settings: Settings, v: Interval) -> Target
+    ensures { λ r. ⌜ r ≡ targetOf settings Relation.LeZero v ⌝ }
+{
+    if v.lo > 0.0 {
+        return Target::Stop(PropResult::Conflict);
+    }
+    Target::Out(Interval::new(v.lo, number::min(v.hi, 0.0)))
+}
+
+fn ne_target(settings: Settings, v: Interval) -> Target
+    ensures { λ r. ⌜ r ≡ targetOf settings Relation.NeZero v ⌝ }
+{
+    let slack = settings.slack;
+    if (v.width() < slack) & (number::abs(v.lo) < slack) {
+        return Target::Stop(PropResult::Conflict);
+    }
+    Target::Nudge
+}
+
+fn target_of(settings: Settings, relation: Relation, v: Interval) -> Target
+    ensures { λ r. ⌜ r ≡ targetOf settings relation v ⌝ }
+{
+    match relation {
+        Relation::EqZero => eq_target(settings, v),
+        Relation::GtZero => gt_target(settings, v),
+        Relation::GeZero => ge_target(settings, v),
+        Relation::LtZero => lt_target(settings, v),
+        Relation::LeZero => le_target(settings, v),
+        Relation::NeZero => ne_target(settings, v),
+    }
+}
+
+// The box of variable i is moved off zero.
+fn nudge_var(i: usize, lo: &mut [f64], hi: &mut [f64]) -> PropResult
+    requires { ⌜ length (now hi) ≡ length (now lo) ⌝ }
+    ensures { λ x. ⌜ (x leaving intervals (now (lo .exit)) (now (hi .exit))) ≡ nudgeVar i (intervals (now (lo .entry)) (now (hi .entry))) ⌝ }
+{
+    if lo.len() <= i {
+        return PropResult::Stable;
+    }
+    if (lo[i] == 0.0) & (hi[i] > 0.0) {
+        lo[i] = number::next_up(0.0);
+        return PropResult::Changed;
+    }
+    if (hi[i] == 0.0) & (lo[i] < 0.0) {
+        hi[i] = number::next_down(0.0);
+        return PropResult::Changed;
+    }
+    PropResult::Stable
+}
+
+fn nudge(nodes: &[u8], k: usize, lo: &mut [f64], hi: &mut [f64]) -> PropResult
+    requires { ⌜ Valid (now nodes) (k + 1) × (length (now hi) ≡ length (now lo)) ⌝ }
+    ensures { λ x. ⌜ (x leaving intervals (now (lo .exit)) (now (hi .exit))) ≡ nudgeTree (treeAt (now (nodes .entry)) k) (intervals (now (lo .entry)) (now (hi .entry))) ⌝ }
+{
+    match tree::node_in(nodes, k) {
+        Node::One => PropResult::Stable,
+        Node::Const(_) => PropResult::Stable,
+        Node::Var(i) => nudge_var(i, lo, hi),
+        Node::Eml(_, _) => PropResult::Stable,
+    }
+}
+
+// Node k's tree is to compare with zero as the relation says.
+fn narrow_atom(
+    settings: Settings,
+    relation: Relation,
+    nodes: &[u8],
+    k: usize,
+    lo: &mut [f64],
+    hi: &mut [f64],
+) -> PropResult
+    requires { ⌜ Valid (now nodes) (k + 1) × (length (now hi) ≡ length (now lo)) ⌝ }
+    ensures { λ x. ⌜ (x leaving intervals (now (lo .exit)) (now (hi .exit))) ≡ narrowAtom settings relation (treeAt (now (nodes .entry)) k) (intervals (now (lo .entry)) (now (hi .entry))) ⌝ }
+{
+    let Values::Within(v) = eval_interval(nodes, k, lo, hi) else {
+        return PropResult::Stable;
+    };
+    if v.is_empty() {
+        return PropResult::Conflict;
+    }
+    match target_of(settings, relation, v) {
+        Target::Stop(result) => result,
+        Target::Out(out) => backward_propagate(settings, nodes, k, out, lo, hi),
+        Target::Nudge => nudge(nodes, k, lo, hi),
+    }
+}
+
+// ---- one round
+
+pub fn is_conflict(result: PropResult) -> bool
+    ensures { λ r. ⌜ r ≡ isConflict result ⌝ }
+{
+    match result {
+        PropResult::Conflict => true,
+        PropResult::Changed => false,
+        PropResult::Stable => false,
+    }
+}
+
+// The hull of each pair of boxes.
+fn hull_boxes(a: Boxes, b: Boxes) -> Boxes
+    requires { ⌜ (a .count ≤ 16) × (b .count ≡ a .count) ⌝ }
+    ensures { λ r. ⌜ (r .count ≡ a .count) × (boxesOf r ≡ hulls (boxesOf a) (boxesOf b)) ⌝ }
+{
+    let mut out = a;
+    let n = a.count;
+    let mut i: usize = 0;
+    while i < n {
+        let v = Interval::new(a.lo[i], a.hi[i]).hull(Interval::new(b.lo[i], b.hi[i]));
+        out.lo[i] = v.lo;
+        out.hi[i] = v.hi;
+        i += 1;
+    }
+    out
+}
+
+// Whether a branch of an Or survived, and the hull of those that did.
+pub struct Survivors {
+    pub any: bool,
+    pub hull: Boxes,
+}
+
+// After one more branch, which answered `result` and left b.
+fn survive(before: Survivors, result: PropResult, b: Boxes) -> Survivors
+    requires { ⌜ (before .hull .count ≤ 16) × (b .count ≡ before .hull .count) ⌝ }
+    ensures { λ r. ⌜ (r .hull .count ≡ before .hull .count) × (survivorsOf r ≡ surviveOf (survivorsOf before) result (boxesOf b)) ⌝ }
+{
+    if is_conflict(result) {
+        return before;
+    }
+    if before.any {
+        let hull = before.hull;
+        return Survivors {
+            any: true,
+            hull: hull_boxes(hull, b),
+        };
+    }
+    Survivors { any: true, hull: b }
+}
+
+// A box after an Or, and whether it is another one.
+pub struct Tightened {
+    pub result: PropResult,
+    pub interval: Interval,
+}
+
+fn tighten(settings: Settings, hull: Interval, old: Interval) -> Tightened
+    ensures { λ r. ⌜ r ≡ tightened settings hull old ⌝ }
+{
+    let new = hull.intersect(old);
+    if new.is_empty() {
+        return Tightened {
+            result: PropResult::Stable,
+            interval: old,
+        };
+    }
+    if moves(settings.slack, old, new) {
+        return Tightened {
+            result: PropResult::Changed,
+            interval: new,
+        };
+    }
+    Tightened {
+        result: PropResult::Stable,
+        interval: old,
+    }
+}
+
+// Each box goes to its part inside the hull, where that is not empty and an end moves.
+fn adopt(settings: Settings, hull: Boxes, lo: &mut [f64], hi: &mut [f64]) -> PropResult
+    requires { ⌜ (hull .count ≤ 16) × (length (now lo) ≡ hull .count) × (length (now hi) ≡ hull .count) ⌝ }
+    ensures { λ x. ⌜ (x leaving intervals (now (lo .exit)) (now (hi .exit))) ≡ adoptOf settings (boxesOf hull) (intervals (now (lo .entry)) (now (hi .entry))) ⌝ }
+{
+    let mut result = PropResult::Stable;
+    let mut i = lo.len();
+    while i > 0 {
+        i -= 1;
+        let h = Interval::new(hull.lo[i], hull.hi[i]);
+        let t = tighten(settings, h, Interval::new(lo[i], hi[i]));
+        let v = t.interval;
+        let w = t.result;
+        lo[i] = v.lo;
+        hi[i] = v.hi;
+        result = worse(w, result);
+    }
+    result
+}
+
+fn adopt_survivors(settings: Settings, s: Survivors, lo: &mut [f64], hi: &mut [f64]) -> PropResult
+    requires { ⌜ (s .hull .count ≤ 16) × (length (now lo) ≡ s .hull .count) × (length (now hi) ≡ s .hull .count) ⌝ }
+    ensures { λ x. ⌜ (x leaving intervals (now (lo .exit)) (now (hi .exit))) ≡ adoptSurvivors settings (survivorsOf s) (intervals (now (lo .entry)) (now (hi .entry))) ⌝ }
+{
+    if s.any {
+        return adopt(settings, s.hull, lo, hi);
+    }
+    PropResult::Conflict
+}
+
+// How a constraint is taken: as it is written, its normal form, its negation.
+pub enum Mode {
+    Written,
+    Normal,
+    Negated,
+}
+
+fn under_not(mode: Mode) -> Mode
+    ensures { λ r. ⌜ r ≡ underNot mode ⌝ }
+{
+    match mode {
+        Mode::Written => Mode::Normal,
+        Mode::Normal => Mode::Negated,
+        Mode::Negated => Mode::Normal,
+    }
+}
+
+fn relation_in(mode: Mode, relation: Relation) -> Relation
+    ensures { λ r. ⌜ r ≡ relationIn mode relation ⌝ }
+{
+    match mode {
+        Mode::Written => relation,
+        Mode::Normal => relation,
+        Mode::Negated => normal::opposite(relation),
+    }
+}
+
+fn is_negated(mode: Mode) -> bool
+    ensures { λ r. ⌜ r ≡ isNegated mode ⌝ }
+{
+    match mode {
+        Mode::Written => false,
+        Mode::Normal => false,
+        Mode::Negated => true,
+    }
+}
+
+// Constraint k. Under a Not the Rust narrows by the normal form of what is inside: the mode says so, and nothing is built.
+pub fn propagate_once(
+    settings: Settings,
+    mode: Mode,
+    nodes: &[u8],
+    constraints: &[u8],
+    starts: &[usize; 256],
+    k: usize,
+    lo: &mut [f64],
+    hi: &mut [f64],
+) -> PropResult
+    requires { ⌜ Ready (now nodes) (now constraints) (k + 1) (now starts) × (length (now hi) ≡ length (now lo)) × (length (now lo) ≤ 16) ⌝ }
+    ensures { λ x. ⌜ (x leaving intervals (now (lo .exit)) (now (hi .exit))) ≡ pass settings mode (constraintAt (now (nodes .entry)) (now (constraints .entry)) k) (intervals (now (lo .entry)) (now (hi .entry))) ⌝ }
+{
+    match constraint::record_in(constraints, k) {
+        Record::Atom(relation, i) => {
+            narrow_atom(settings, relation_in(mode, relation), nodes, i, lo, hi)
+        }
+        Record::Not => propagate_once(
+            settings,
+            under_not(mode),
+            nodes,
+            constraints,
+            starts,
+            k - 1,
+            lo,
+            hi,
+        ),
+        Record::And(m) => {
+            if is_negated(mode) {
+                return narrow_any(settings, mode, nodes, constraints, starts, m, k, lo, hi);
+            }
+            narrow_all(settings, mode, nodes, constraints, starts, m, k, lo, hi)
+        }
+        Record::Or(m) => {
+            if is_negated(mode) {
+                return narrow_all(settings, mode, nodes, constraints, starts, m, k, lo, hi);
+            }
+            narrow_any(settings, mode, nodes, constraints, starts, m, k, lo, hi)
+        }
+        Record::ForAll(_, _, _) => PropResult::Stable,
+        Record::Exists(_, _, _) => PropResult::Stable,
+    }
+}
+
+// The last m constraints that are finished before record n, oldest first, up to a Conflict.
+fn narrow_all(
+    settings: Settings,
+    mode: Mode,
+    nodes: &[u8],
+    constraints: &[u8],
+    starts: &[usize; 256],
+    m: usize,
+    n: usize,
+    lo: &mut [f64],
+    hi: &mut [f64],
+) -> PropResult
+    requires { ⌜ Taken (now nodes) (now constraints) m n (now starts) × (length (now hi) ≡ length (now lo)) × (length (now lo) ≤ 16) ⌝ }
+    ensures { λ x. ⌜ (x leaving intervals (now (lo .exit)) (now (hi .exit))) ≡ passAll settings mode (gather (upTo (now (nodes .entry)) (now (constraints .entry)) m n)) (intervals (now (lo .entry)) (now (hi .entry))) ⌝ }
+{
+    if m == 0 {
+        return PropResult::Stable;
+    }
+    let last = n - 1;
+    let s = starts[last];
+    let before = narrow_all(settings, mode, nodes, constraints, starts, m - 1, s, lo, hi);
+    if is_conflict(before) {
+        return before;
+    }
+    worse(
+        before,
+        propagate_once(settings, mode, nodes, constraints, starts, last, lo, hi),
+    )
+}
+
+// One of them is to hold: each narrows a copy, and the boxes go to the hull of the survivors.
+fn narrow_any(
+    settings: Settings,
+    mode: Mode,
+    nodes: &[u8],
+    constraints: &[u8],
+    starts: &[usize; 256],
+    m: usize,
+    n: usize,
+    lo: &mut [f64],
+    hi: &mut [f64],
+) -> PropResult
+    requires { ⌜ Taken (now nodes) (now constraints) m n (now starts) × (length (now hi) ≡ length (now lo)) × (length (now lo) ≤ 16) ⌝ }
+    ensures { λ x. ⌜ (x leaving intervals (now (lo .exit)) (now (hi .exit))) ≡ passOne settings mode (gather (upTo (now (nodes .entry)) (now (constraints .entry)) m n)) (intervals (now (lo .entry)) (now (hi .entry))) ⌝ }
+{
+    let boxes = Boxes::new(lo, hi, lo.len());
+    let s = survivors_of(settings, mode, nodes, constraints, starts, m, n, boxes);
+    adopt_survivors(settings, s, lo, hi)
+}
+
+// The survivors among them, each narrowed from the same boxes.
+fn survivors_of(
+    settings: Settings,
+    mode: Mode,
+    nodes: &[u8],
+    constraints: &[u8],
+    starts: &[usize; 256],
+    m: usize,
+    n: usize,
+    boxes: Boxes,
+) -> Survivors
+    requires { ⌜ Taken (now nodes) (now constraints) m n (now starts) × (boxes .count ≤ 16) ⌝ }
+    ensures { λ r. ⌜ (r .hull .count ≡ boxes .count) × (survivorsOf r ≡ passAny settings mode (gather (upTo (now (nodes .entry)) (now (constraints .entry)) m n)) (boxesOf boxes) none) ⌝ }
+{
+    if m == 0 {
+        return Survivors {
+            any: false,
+            hull: boxes,
+        };
+    }
+    let last = n - 1;
+    let s = starts[last];
+    let before = survivors_of(settings, mode, nodes, constraints, starts, m - 1, s, boxes);
+    with_branch(
+        settings,
+        mode,
+        nodes,
+        constraints,
+        starts,
+        last,
+        boxes,
+        before,
+    )
+}
+
+// Those so far, with constraint k if it survives in the boxes.
+fn with_branch(
+    settings: Settings,
+    mode: Mode,
+    nodes: &[u8],
+    constraints: &[u8],
+    starts: &[usize; 256],
+    k: usize,
+    boxes: Boxes,
+    before: Survivors,
+) -> Survivors
+    requires { ⌜ Ready (now nodes) (now constraints) (k + 1) (now starts) × (boxes .count ≤ 16) × (before .hull .count ≡ boxes .count) ⌝ }
+    ensures { λ r. ⌜ (r .hull .count ≡ boxes .count) × (survivorsOf r ≡ passInto settings mode (constraintAt (now (nodes .entry)) (now (constraints .entry)) k) (boxesOf boxes) (survivorsOf before)) ⌝ }
+{
+    let count = boxes.count;
+    let mut lo = boxes.lo;
+    let mut hi = boxes.hi;
+    let result = propagate_once(
+        settings,
+        mode,
+        nodes,
+        constraints,
+        starts,
+        k,
+        &mut lo[..count],
+        &mut hi[..count],
+    );
+    survive(before, result, Boxes { lo, hi, count })
+}
+
+// Constraint k, in rounds until nothing changes or a Conflict, at most as many as the settings say.
+pub fn propagate(
+    settings: Settings,
+    nodes: &[u8],
+    constraints: &[u8],
+    starts: &[usize; 256],
+    k: usize,
+    lo: &mut [f64],
+    hi: &mut [f64],
+) -> PropResult
+    requires { ⌜ Ready (now nodes) (now constraints) (k + 1) (now starts) × (length (now hi) ≡ length (now lo)) × (length (now lo) ≤ 16) ⌝ }
+    ensures { λ x. ⌜ (x leaving intervals (now (lo .exit)) (now (hi .exit))) ≡ propagateOf settings (constraintAt (now (nodes .entry)) (now (constraints .entry)) k) (intervals (now (lo .entry)) (now (hi .entry))) ⌝ }
+{
+    let most = settings.rounds;
+    let mut done = PropResult::Stable;
+    let mut i: usize = 0;
+    while i < most {
+        let result = propagate_once(
+            settings,
+            Mode::Written,
+            nodes,
+            constraints,
+            starts,
+            k,
+            lo,
+            hi,
+        );
+        match result {
+            PropResult::Conflict => return PropResult::Conflict,
+            PropResult::Stable => return done,
+            PropResult::Changed => done = PropResult::Changed,
+        }
+        i += 1;
+    }
+    done
+}
+
+// ---- the call on records and boxes that are given
+
+pub enum Propagated {
+    Refused(u8),
+    Answered(PropResult),
+}
+
+// The tests in document 01's order, then `propagate` by the one constraint that the records leave. A refusal alters nothing.
+pub fn propagate_given(
+    nodes: &[u8],
+    constraints: &[u8],
+    lo: &mut [f64],
+    hi: &mut [f64],
+) -> Propagated
+    ensures { λ r. ⌜ (r leaving now (lo .exit) and now (hi .exit)) ≡ propagateGiven (now (nodes .entry)) (now (constraints .entry)) (now (lo .entry)) (now (hi .entry)) ⌝ }
+{
+    let mut starts = [0usize; 256];
+    let r = file::test_given(nodes, constraints, &mut starts);
+    if r != 0 {
+        return Propagated::Refused(r);
+    }
+    if interval::are_boxes(lo, hi) {
+        let last = constraints.len() / 24 - 1;
+        let x = propagate(settings::usual(), nodes, constraints, &starts, last, lo, hi);
+        return Propagated::Answered(x);
+    }
+    Propagated::Refused(9)
+}

@@ -1,0 +1,8 @@
+mod Threshold
+mod Machine
+mod Flattening
+mod Loop
+mod Sampling
+mod Checking
+mod Residuals
+mod Answers

@@ -1,0 +1,34 @@
+-- The copy of a point with one variable placed. Assumes nothing.
+use Prim.Native.Nat.{ℕ, _<_, _≤_, _+_}
+use mathlib.Core.Path.{_≡_, sym, ap, _∙_}
+use mathlib.Core.List.{List, [], _∷_, _++_}
+use native.Mathlib.Numerals.{add-one}
+use native.Mathlib.Omega.{arith}
+use lib.ListN.{length, getD, take, set, length-set, length-take}
+use lib.Seq.{take-suc, take-suc-set, take-set-lt, take-all}
+use lib.Ieee.{Float, nan}
+
+module _ (inner point : List Float) where
+  pub copied-more : (i : ℕ) → i < length inner → i < length point → take i inner ≡ take i point → take (i + 1) (set inner i (getD point i nan)) ≡ take (i + 1) point
+  copied-more i h g e =
+      ap (λ (n : ℕ). take n (set inner i (getD point i nan))) (add-one i)
+      ∙ take-suc-set inner i (getD point i nan) h
+      ∙ ap (λ (l : List Float). l ++ getD point i nan ∷ []) e
+      ∙ sym (take-suc point i nan g)
+      ∙ ap (λ (n : ℕ). take n point) (sym (add-one i))
+
+  pub all-copied : (i : ℕ) → length point ≤ i → i ≤ length point → take i inner ≡ take i point → take (length point) inner ≡ point
+  all-copied i h g e =
+      let q : length point ≡ i = omega arith in
+      ap (λ (n : ℕ). take n inner) q ∙ e ∙ take-all i point (omega arith)
+
+  pub placed : (v : ℕ) (x : Float) → v < length point → take (length point) inner ≡ point → take (length point) (set inner v x) ≡ set point v x
+  placed v x h e = take-set-lt (length point) inner v x h ∙ ap (λ (l : List Float). set l v x) e
+
+-- the copy's first places are the point, as long as it is
+module _ (inner point : List Float) (v : ℕ) (x : Float) (e : take (length point) inner ≡ set point v x) where
+  pub sample-length : length point ≡ length (take (length point) inner)
+  sample-length = sym (ap length e ∙ length-set point v x)
+
+  pub sample-there : length point ≤ length inner
+  sample-there = omega (arith, sample-length, length-take (length point) inner)

@@ -1,0 +1,325 @@
+-- `point::eval::run` meets its contract: at the loop's head, running what is left on the stack's values gives what running all gives.
+-- Assumes nothing.
+use Prim.Native.Nat.{_≤_, _+_, _-_}
+use mathlib.Core.Path.{_≡_, refl, sym, ap, _∙_}
+use mathlib.Core.List.{List, [], _∷_}
+use native.Mathlib.Omega.{arith}
+use borrow.Author.Needs.{needs}
+use lib.ListN.{length, drop}
+use Rattle.point.specs.declared.eval.Instruction.{Instruction}
+use Rattle.point.specs.Machine.{instructions, instructionOf, run}
+use Rattle.point.proofs.Loop.{State, next, done, fit, one-turn, const-turn, var-turn, var-stop, eml-turn, eml-stop, ended}
+use Rattle.point.proofs.eval.run.Statement.{statement}
+use Rattle.point.proofs.eval.run.Tie as tie
+
+abbrev Inv-loop : tie.InvT-loop
+Inv-loop nodes order n point settings re₀ im₀ top₀ j₀ re im top j =
+    (j ≤ n) × State settings point (run settings point (instructions nodes order n) []) (length re₀) re im top (drop j (instructions nodes order n))
+
+abbrev μ-loop : tie.MeasureT-loop
+μ-loop nodes order n point settings re₀ im₀ top₀ j₀ re im top j = n - j
+
+-- a turn, once its instruction is read
+abbrev head : tie.After-instruction-of Inv-loop μ-loop → tie.At-loop Inv-loop μ-loop
+head c = c .before .before .before .before
+
+abbrev program : tie.At-loop Inv-loop μ-loop → List Instruction
+program h = let a = h .before .before .before .before .before .before .args in instructions (a .nodes .now) (a .order .now) (a .n)
+
+-- the instruction is the first of what is left
+told : (c : tie.After-instruction-of Inv-loop μ-loop) (x : Instruction) → c .instruction-of .result ≡ x →
+    drop (head c .loop .j) (program (head c)) ≡ x ∷ drop (head c .loop .j + 1) (program (head c))
+told c x q =
+    next _ _ _ (head c .before .before .before .before .before .before .pre .within) (head c .loop .j) (c .before .before .before .loop-test .taken)
+    ∙ ap (λ (y : Instruction). y ∷ drop (head c .loop .j + 1) (program (head c))) (sym (c .instruction-of .ensures ∙ ap instructionOf (c .before .node-in .ensures)) ∙ q)
+
+-- before an Eml the stack holds two values
+two-there : (c : tie.After-enum-told2 Inv-loop μ-loop) →
+    let h = head (c .before .before) in (2 ≤ h .loop .top) × (h .loop .top ≤ length (h .loop .re)) × (h .loop .top ≤ length (h .loop .im))
+two-there c =
+    let h = head (c .before .before) in
+    let i = h .loop .inv .1 in
+    (fit i (told (c .before .before) _ (c .enum-told2 .given .1)), omega (arith, i .within, i .long-re), omega (arith, i .within, i .long-im))
+
+loop-holds : tie.Need-loop-holds Inv-loop μ-loop
+loop-holds c = (omega arith, record { long-re = refl; long-im = c .before .before .before .before .before .pre .same; within = omega arith; room = c .before .before .before .before .before .pre .room; same = refl })
+
+mul-k : tie.Need-mul-k Inv-loop μ-loop
+mul-k c = omega (arith, c .before .before .before .before .before .before .before .pre .within)
+
+shared-slice-read-k : tie.Need-shared-slice-read-k Inv-loop μ-loop
+shared-slice-read-k c = omega (arith, c .before .before .before .before .before .before .before .before .pre .within)
+
+cast-k : tie.Need-cast-k Inv-loop μ-loop
+cast-k c = omega (arith, c .shared-slice-known4 .given (c .before .before .loop .j))
+
+add-j : tie.Need-add-j Inv-loop μ-loop
+add-j c = search needs
+
+node-in-requires : tie.Need-node-in-requires Inv-loop μ-loop
+node-in-requires c κs = c .before .before .before .before .before .before .before .before .pre .numbers .there _ (c .before .loop-test .taken)
+
+instruction-of-requires : tie.Need-instruction-of-requires Inv-loop μ-loop
+instruction-of-requires c κs = search needs
+
+enum-told : tie.Need-enum-told Inv-loop μ-loop
+enum-told c = search needs
+
+mul-re : tie.Need-mul-re Inv-loop μ-loop
+mul-re c = omega (arith, fit (c .before .before .before .before .before .before .loop .inv .1) (told (c .before .before) _ (c .enum-told .given .1)), c .before .before .before .before .before .before .loop .inv .1 .long-re)
+
+slice-write-re : tie.Need-slice-write-re Inv-loop μ-loop
+slice-write-re c = omega (arith, fit (c .before .before .before .before .before .before .loop .inv .1) (told (c .before .before) _ (c .enum-told .given .1)), c .before .before .before .before .before .before .loop .inv .1 .long-re)
+
+mul-im : tie.Need-mul-im Inv-loop μ-loop
+mul-im c = omega (arith, fit (c .before .before .before .before .before .before .loop .inv .1) (told (c .before .before) _ (c .enum-told .given .1)), c .before .before .before .before .before .before .loop .inv .1 .long-im)
+
+slice-write-im : tie.Need-slice-write-im Inv-loop μ-loop
+slice-write-im c = omega (arith, fit (c .before .before .before .before .before .before .loop .inv .1) (told (c .before .before) _ (c .enum-told .given .1)), c .before .before .before .before .before .before .loop .inv .1 .long-im)
+
+add-top : tie.Need-add-top Inv-loop μ-loop
+add-top c = omega (arith, fit (c .before .before .before .before .before .before .loop .inv .1) (told (c .before .before) _ (c .enum-told .given .1)), c .before .before .before .before .before .before .loop .inv .1 .long-re)
+
+loop-less : tie.Need-loop-less Inv-loop μ-loop
+loop-less c = search needs
+
+loop-again : tie.Need-loop-again Inv-loop μ-loop
+loop-again c = (omega arith, one-turn (c .before .before .before .before .before .before .loop .inv .1) (told (c .before .before) _ (c .enum-told .given .1)))
+
+enum-known-v : tie.Need-enum-known-v Inv-loop μ-loop
+enum-known-v c = search needs
+
+mul-re-2 : tie.Need-mul-re-2 Inv-loop μ-loop
+mul-re-2 c = omega (arith, fit (c .before .before .before .before .before .before .before .loop .inv .1) (told (c .before .before .before) _ (c .before .v .given .1)), c .before .before .before .before .before .before .before .loop .inv .1 .long-re)
+
+slice-write-re-2 : tie.Need-slice-write-re-2 Inv-loop μ-loop
+slice-write-re-2 c = omega (arith, fit (c .before .before .before .before .before .before .before .loop .inv .1) (told (c .before .before .before) _ (c .before .v .given .1)), c .before .before .before .before .before .before .before .loop .inv .1 .long-re)
+
+mul-im-2 : tie.Need-mul-im-2 Inv-loop μ-loop
+mul-im-2 c = omega (arith, fit (c .before .before .before .before .before .before .before .loop .inv .1) (told (c .before .before .before) _ (c .before .v .given .1)), c .before .before .before .before .before .before .before .loop .inv .1 .long-im)
+
+slice-write-im-2 : tie.Need-slice-write-im-2 Inv-loop μ-loop
+slice-write-im-2 c = omega (arith, fit (c .before .before .before .before .before .before .before .loop .inv .1) (told (c .before .before .before) _ (c .before .v .given .1)), c .before .before .before .before .before .before .before .loop .inv .1 .long-im)
+
+add-top-2 : tie.Need-add-top-2 Inv-loop μ-loop
+add-top-2 c = omega (arith, fit (c .before .before .before .before .before .before .before .loop .inv .1) (told (c .before .before .before) _ (c .before .v .given .1)), c .before .before .before .before .before .before .before .loop .inv .1 .long-re)
+
+loop-less-2 : tie.Need-loop-less-2 Inv-loop μ-loop
+loop-less-2 c = search needs
+
+loop-again-2 : tie.Need-loop-again-2 Inv-loop μ-loop
+loop-again-2 c = (omega arith, const-turn (c .before .before .before .before .before .before .before .loop .inv .1) (told (c .before .before .before) _ (c .before .v .given .1)))
+
+enum-known-i : tie.Need-enum-known-i Inv-loop μ-loop
+enum-known-i c = search needs
+
+same-length : tie.Need-same-length Inv-loop μ-loop
+same-length c = c .before .before .before .before .before .before .before .before .loop .inv .1 .long-re
+
+same-length-2 : tie.Need-same-length-2 Inv-loop μ-loop
+same-length-2 c = c .before .before .before .before .before .before .before .before .loop .inv .1 .long-im ∙ sym (c .before .before .before .before .before .before .before .before .before .before .before .before .before .before .pre .same)
+
+returns : tie.Need-returns Inv-loop μ-loop
+returns c = var-stop (c .before .before .before .before .before .before .before .before .loop .inv .1) (told (c .before .before .before .before) _ (c .before .before .i .given .1)) (c .if1 .taken)
+
+mul-re-3 : tie.Need-mul-re-3 Inv-loop μ-loop
+mul-re-3 c = search needs
+
+shared-slice-read-re : tie.Need-shared-slice-read-re Inv-loop μ-loop
+shared-slice-read-re c = search needs
+
+mul-re-4 : tie.Need-mul-re-4 Inv-loop μ-loop
+mul-re-4 c = omega (arith, fit (c .before .before .before .before .before .before .before .before .before .loop .inv .1) (told (c .before .before .before .before .before) _ (c .before .before .before .i .given .1)), c .before .before .before .before .before .before .before .before .before .loop .inv .1 .long-re)
+
+slice-write-re-3 : tie.Need-slice-write-re-3 Inv-loop μ-loop
+slice-write-re-3 c = omega (arith, fit (c .before .before .before .before .before .before .before .before .before .loop .inv .1) (told (c .before .before .before .before .before) _ (c .before .before .before .i .given .1)), c .before .before .before .before .before .before .before .before .before .loop .inv .1 .long-re)
+
+mul-im-3 : tie.Need-mul-im-3 Inv-loop μ-loop
+mul-im-3 c = omega (arith, fit (c .before .before .before .before .before .before .before .before .before .loop .inv .1) (told (c .before .before .before .before .before) _ (c .before .before .before .i .given .1)), c .before .before .before .before .before .before .before .before .before .loop .inv .1 .long-im)
+
+slice-write-im-3 : tie.Need-slice-write-im-3 Inv-loop μ-loop
+slice-write-im-3 c = omega (arith, fit (c .before .before .before .before .before .before .before .before .before .loop .inv .1) (told (c .before .before .before .before .before) _ (c .before .before .before .i .given .1)), c .before .before .before .before .before .before .before .before .before .loop .inv .1 .long-im)
+
+add-top-3 : tie.Need-add-top-3 Inv-loop μ-loop
+add-top-3 c = omega (arith, fit (c .before .before .before .before .before .before .before .before .before .loop .inv .1) (told (c .before .before .before .before .before) _ (c .before .before .before .i .given .1)), c .before .before .before .before .before .before .before .before .before .loop .inv .1 .long-re)
+
+loop-less-3 : tie.Need-loop-less-3 Inv-loop μ-loop
+loop-less-3 c = search needs
+
+loop-again-3 : tie.Need-loop-again-3 Inv-loop μ-loop
+loop-again-3 c = (omega arith, var-turn (c .before .before .before .before .before .before .before .before .before .loop .inv .1) (told (c .before .before .before .before .before) _ (c .before .before .before .i .given .1)) (c .before .if1 .left))
+
+enum-told-2 : tie.Need-enum-told-2 Inv-loop μ-loop
+enum-told-2 c = search needs
+
+sub-t38 : tie.Need-sub-t38 Inv-loop μ-loop
+sub-t38 c = omega (arith, two-there c)
+
+mul-t39 : tie.Need-mul-t39 Inv-loop μ-loop
+mul-t39 c = omega (arith, two-there c)
+
+slice-read-t41 : tie.Need-slice-read-t41 Inv-loop μ-loop
+slice-read-t41 c = omega (arith, two-there (c .before))
+
+sub-t42 : tie.Need-sub-t42 Inv-loop μ-loop
+sub-t42 c = omega (arith, two-there (c .before))
+
+mul-t43 : tie.Need-mul-t43 Inv-loop μ-loop
+mul-t43 c = omega (arith, two-there (c .before))
+
+slice-read-t45 : tie.Need-slice-read-t45 Inv-loop μ-loop
+slice-read-t45 c = omega (arith, two-there (c .before .before))
+
+sub-t38-2 : tie.Need-sub-t38-2 Inv-loop μ-loop
+sub-t38-2 c = omega (arith, two-there (c .before .before))
+
+mul-t39-2 : tie.Need-mul-t39-2 Inv-loop μ-loop
+mul-t39-2 c = omega (arith, two-there (c .before .before))
+
+slice-read-t45-2 : tie.Need-slice-read-t45-2 Inv-loop μ-loop
+slice-read-t45-2 c = omega (arith, two-there (c .before .before .before))
+
+sub-t42-2 : tie.Need-sub-t42-2 Inv-loop μ-loop
+sub-t42-2 c = omega (arith, two-there (c .before .before .before))
+
+mul-t43-2 : tie.Need-mul-t43-2 Inv-loop μ-loop
+mul-t43-2 c = omega (arith, two-there (c .before .before .before))
+
+slice-read-t41-2 : tie.Need-slice-read-t41-2 Inv-loop μ-loop
+slice-read-t41-2 c = omega (arith, two-there (c .before .before .before .before))
+
+eml-complex-requires : tie.Need-eml-complex-requires Inv-loop μ-loop
+eml-complex-requires c κs = search needs
+
+enum-known-out : tie.Need-enum-known-out Inv-loop μ-loop
+enum-known-out c = search needs
+
+enum-told-3 : tie.Need-enum-told-3 Inv-loop μ-loop
+enum-told-3 c = search needs
+
+same-length-3 : tie.Need-same-length-3 Inv-loop μ-loop
+same-length-3 c = c .before .before .before .before .before .before .before .before .before .before .before .before .before .loop .inv .1 .long-re
+
+same-length-4 : tie.Need-same-length-4 Inv-loop μ-loop
+same-length-4 c = c .before .before .before .before .before .before .before .before .before .before .before .before .before .loop .inv .1 .long-im ∙ sym (c .before .before .before .before .before .before .before .before .before .before .before .before .before .before .before .before .before .before .before .pre .same)
+
+returns-2 : tie.Need-returns-2 Inv-loop μ-loop
+returns-2 c = eml-stop (c .before .before .before .before .before .before .before .before .before .before .before .before .before .loop .inv .1) (told (c .before .before .before .before .before .before .before .before .before) _ (c .before .before .before .before .before .before .before .enum-told2 .given .1)) (c .before .before .eml-complex .ensures) (c .before .match2 .keys2)
+
+sub-re : tie.Need-sub-re Inv-loop μ-loop
+sub-re c = omega (arith, two-there (c .before .before .before .before .before .before .before .before))
+
+mul-re-5 : tie.Need-mul-re-5 Inv-loop μ-loop
+mul-re-5 c = omega (arith, two-there (c .before .before .before .before .before .before .before .before))
+
+slice-write-re-4 : tie.Need-slice-write-re-4 Inv-loop μ-loop
+slice-write-re-4 c = omega (arith, two-there (c .before .before .before .before .before .before .before .before))
+
+sub-im : tie.Need-sub-im Inv-loop μ-loop
+sub-im c = omega (arith, two-there (c .before .before .before .before .before .before .before .before))
+
+mul-im-4 : tie.Need-mul-im-4 Inv-loop μ-loop
+mul-im-4 c = omega (arith, two-there (c .before .before .before .before .before .before .before .before))
+
+slice-write-im-4 : tie.Need-slice-write-im-4 Inv-loop μ-loop
+slice-write-im-4 c = omega (arith, two-there (c .before .before .before .before .before .before .before .before))
+
+sub-top : tie.Need-sub-top Inv-loop μ-loop
+sub-top c = omega (arith, two-there (c .before .before .before .before .before .before .before .before))
+
+loop-less-4 : tie.Need-loop-less-4 Inv-loop μ-loop
+loop-less-4 c = search needs
+
+loop-again-4 : tie.Need-loop-again-4 Inv-loop μ-loop
+loop-again-4 c = (omega arith, eml-turn (c .before .before .before .before .before .before .before .before .before .before .before .before .before .before .loop .inv .1) (told (c .before .before .before .before .before .before .before .before .before .before) _ (c .before .before .before .before .before .before .before .before .enum-told2 .given .1)) (sym (c .before .before .before .eml-complex .ensures) ∙ c .before .out .given .1))
+
+slice-read-t51 : tie.Need-slice-read-t51 Inv-loop μ-loop
+slice-read-t51 c = omega (arith, (ended (c .before .before .loop .inv .1) (done _ _ _ (c .before .before .before .before .before .before .before .before .pre .within) _ (c .before .loop-test .left) (c .before .before .loop .inv .0))) .0, c .before .before .loop .inv .1 .long-re)
+
+slice-read-t53 : tie.Need-slice-read-t53 Inv-loop μ-loop
+slice-read-t53 c = omega (arith, (ended (c .before .before .before .loop .inv .1) (done _ _ _ (c .before .before .before .before .before .before .before .before .before .pre .within) _ (c .before .before .loop-test .left) (c .before .before .before .loop .inv .0))) .0, c .before .before .before .loop .inv .1 .long-im)
+
+same-length-5 : tie.Need-same-length-5 Inv-loop μ-loop
+same-length-5 c = c .before .before .before .loop .inv .1 .long-re
+
+same-length-6 : tie.Need-same-length-6 Inv-loop μ-loop
+same-length-6 c = c .before .before .before .loop .inv .1 .long-im ∙ sym (c .before .before .before .before .before .before .before .before .before .pre .same)
+
+returns-3 : tie.Need-returns-3 Inv-loop μ-loop
+returns-3 c = (ended (c .before .before .before .loop .inv .1) (done _ _ _ (c .before .before .before .before .before .before .before .before .before .pre .within) _ (c .before .before .loop-test .left) (c .before .before .before .loop .inv .0))) .1
+
+pub run-spec : {M : Type 1} → statement M
+run-spec =
+    tie.close
+    (tie.spec
+    Inv-loop
+    μ-loop
+    loop-holds
+    mul-k
+    shared-slice-read-k
+    cast-k
+    add-j
+    node-in-requires
+    instruction-of-requires
+    enum-told
+    mul-re
+    slice-write-re
+    mul-im
+    slice-write-im
+    add-top
+    loop-less
+    loop-again
+    enum-known-v
+    mul-re-2
+    slice-write-re-2
+    mul-im-2
+    slice-write-im-2
+    add-top-2
+    loop-less-2
+    loop-again-2
+    enum-known-i
+    same-length
+    same-length-2
+    returns
+    mul-re-3
+    shared-slice-read-re
+    mul-re-4
+    slice-write-re-3
+    mul-im-3
+    slice-write-im-3
+    add-top-3
+    loop-less-3
+    loop-again-3
+    enum-told-2
+    sub-t38
+    mul-t39
+    slice-read-t41
+    sub-t42
+    mul-t43
+    slice-read-t45
+    sub-t38-2
+    mul-t39-2
+    slice-read-t45-2
+    sub-t42-2
+    mul-t43-2
+    slice-read-t41-2
+    eml-complex-requires
+    enum-known-out
+    enum-told-3
+    same-length-3
+    same-length-4
+    returns-2
+    sub-re
+    mul-re-5
+    slice-write-re-4
+    sub-im
+    mul-im-4
+    slice-write-im-4
+    sub-top
+    loop-less-4
+    loop-again-4
+    slice-read-t51
+    slice-read-t53
+    same-length-5
+    same-length-6
+    returns-3)

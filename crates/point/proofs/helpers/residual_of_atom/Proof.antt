@@ -1,0 +1,52 @@
+-- `point::helpers::residual_of_atom` meets its contract. Assumes nothing.
+use mathlib.Core.Path.{sym, ap, _∙_}
+use borrow.Author.Needs.{needs}
+use Rattle.point.specs.declared.eval.Evaluated.{Evaluated}
+use Rattle.point.specs.Residual.{shortfall, valueOr, errorValue}
+use Rattle.point.proofs.helpers.residual_of_atom.Statement.{statement}
+use Rattle.point.proofs.helpers.residual_of_atom.Tie as tie
+
+eval-real-requires : tie.Need-eval-real-requires
+eval-real-requires c κs = search needs
+
+enum-known-v : tie.Need-enum-known-v
+enum-known-v c = search needs
+
+shortfall-requires : tie.Need-shortfall-requires
+shortfall-requires c κs = search needs
+
+enum-told : tie.Need-enum-told
+enum-told c = search needs
+
+error-value-requires : tie.Need-error-value-requires
+error-value-requires c κs = search needs
+
+shortfall-requires-2 : tie.Need-shortfall-requires-2
+shortfall-requires-2 c κs = search needs
+
+same-length : tie.Need-same-length
+same-length c = search needs
+
+returns : tie.Need-returns
+returns c = c .shortfall .ensures ∙ sym (ap (λ (x : Evaluated). shortfall (c .before .before .before .before .before .before .before .before .before .before .before .args .relation) (valueOr (errorValue (c .before .before .before .before .before .before .before .before .before .before .before .args .relation)) x)) (sym (c .before .before .before .before .before .before .eval-real .ensures) ∙ c .before .before .v .given .1))
+
+same-length-2 : tie.Need-same-length-2
+same-length-2 c = search needs
+
+returns-2 : tie.Need-returns-2
+returns-2 c = c .shortfall2 .ensures ∙ ap (shortfall (c .before .before .before .before .before .before .before .before .before .before .before .args .relation)) (c .before .error-value .ensures) ∙ sym (ap (λ (x : Evaluated). shortfall (c .before .before .before .before .before .before .before .before .before .before .before .args .relation) (valueOr (errorValue (c .before .before .before .before .before .before .before .before .before .before .before .args .relation)) x)) (sym (c .before .before .before .before .before .before .eval-real .ensures) ∙ c .before .before .enum-told .given .1))
+
+pub residual-of-atom-spec : {M : Type 1} → statement M
+residual-of-atom-spec =
+    tie.close
+    (tie.spec
+    eval-real-requires
+    enum-known-v
+    shortfall-requires
+    enum-told
+    error-value-requires
+    shortfall-requires-2
+    same-length
+    returns
+    same-length-2
+    returns-2)

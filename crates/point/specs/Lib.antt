@@ -1,0 +1,9 @@
+pub mod Lent
+pub mod Eval
+pub mod Machine
+pub mod Check
+pub mod Residual
+pub mod Answer
+pub mod Laws
+pub mod Computing
+pub mod Examples

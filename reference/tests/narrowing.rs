@@ -1,0 +1,122 @@
+//! `propagate` against the Rust's: the answer and every bit of every box, also after a Conflict.
+
+use reference::compare::{Tally, hex, say};
+use reference::generate::{self, Shape, Temper};
+use reference::house;
+use reference::port;
+use reference::smt::interval::{Interval, IntervalDomain, PropResult};
+use reference::splitmix::SplitMix64;
+
+fn shape(rng: &mut SplitMix64) -> Shape {
+    match rng.below(400) {
+        0 => Shape::large(rng),
+        1..=20 => Shape::medium(rng),
+        21..=250 => Shape::narrowing(rng),
+        _ => Shape::small(rng),
+    }
+}
+
+/// The problem's own boxes, or others; fewer and more than the variables too.
+fn boxes(rng: &mut SplitMix64, bounds: &[(f64, f64)], temper: Temper) -> Vec<(f64, f64)> {
+    let mut boxes = bounds.to_vec();
+    match rng.below(4) {
+        0 => boxes.truncate(rng.below(boxes.len() + 1)),
+        1 => {
+            let more = rng.below(17 - boxes.len());
+            boxes.extend((0..more).map(|_| generate::range(rng, temper)));
+        }
+        2 => {
+            for place in &mut boxes {
+                if rng.one_in(2) {
+                    *place = generate::range(rng, Temper::Wild);
+                }
+            }
+        }
+        _ => {}
+    }
+    boxes
+}
+
+#[test]
+fn propagation() {
+    let mut rng = SplitMix64::new(61);
+    let (mut changed, mut stable, mut conflict, mut written) = (0_u64, 0_u64, 0_u64, 0_u64);
+    for _ in 0..300_000 {
+        let shape = shape(&mut rng);
+        let parts = generate::problem(&mut rng, &shape);
+        let bodies = parts.to_bodies();
+        let problem = house::read_records(&bodies.nodes, &bodies.constraints).expect("sound");
+        let boxes = boxes(&mut rng, &parts.bounds, shape.temper);
+        let mut domain = IntervalDomain {
+            vars: boxes
+                .iter()
+                .map(|&(lo, hi)| Interval::new(lo, hi))
+                .collect(),
+        };
+        let theirs = domain.propagate(&problem.constraint);
+        let mut lo: Vec<f64> = boxes.iter().map(|b| b.0).collect();
+        let mut hi: Vec<f64> = boxes.iter().map(|b| b.1).collect();
+        let before = (lo.clone(), hi.clone());
+        let ours = port::propagate(&bodies.nodes, &bodies.constraints, &mut lo, &mut hi);
+        assert_eq!(ours, Ok(theirs), "{parts:?} {boxes:?}");
+        for (i, v) in domain.vars.iter().enumerate() {
+            let (a, b) = (hex(&[v.lo, v.hi]), hex(&[lo[i], hi[i]]));
+            assert_eq!(a, b, "box {i} of {parts:?} {boxes:?}");
+            // No lo lowered, no hi raised, no interval emptied.
+            assert!(before.0[i] <= lo[i] && lo[i] <= hi[i] && hi[i] <= before.1[i]);
+        }
+        match theirs {
+            PropResult::Changed => changed += 1,
+            PropResult::Stable => stable += 1,
+            PropResult::Conflict => conflict += 1,
+        }
+        let moved = (&before.0, &before.1) != (&lo, &hi);
+        written += u64::from(theirs == PropResult::Conflict && moved);
+    }
+    say(&format!(
+        "propagate: 300000 compared, all equal; Changed {changed}, Stable {stable}, Conflict {conflict}, of which {written} had written"
+    ));
+    assert!(changed >= 20_000 && stable >= 20_000 && conflict >= 20_000 && written >= 1_000);
+}
+
+#[test]
+fn refusals() {
+    let mut rng = SplitMix64::new(62);
+    let mut tally = Tally::new("refusals of propagate");
+    for _ in 0..60_000 {
+        let (nodes, constraints) = generate::any_records(&mut rng);
+        let count = if rng.one_in(6) {
+            15 + rng.below(4)
+        } else {
+            rng.below(4)
+        };
+        let mut boxes: Vec<(f64, f64)> = (0..count)
+            .map(|_| generate::range(&mut rng, Temper::Wild))
+            .collect();
+        if rng.one_in(4) && count > 0 {
+            let at = rng.below(count);
+            boxes[at] = generate::unsound_range(&mut rng);
+        }
+        let mut lo: Vec<f64> = boxes.iter().map(|b| b.0).collect();
+        let mut hi: Vec<f64> = boxes.iter().map(|b| b.1).collect();
+        if rng.one_in(20) {
+            hi.push(1.0);
+        }
+        let records = house::read_records(&nodes, &constraints).err().unwrap_or(0);
+        let sound = boxes.iter().all(|&(a, b)| house::is_sound(a, b));
+        let expected = match records {
+            0 if lo.len() > 16 || lo.len() != hi.len() || !sound => 9,
+            other => other,
+        };
+        let before = (hex(&lo), hex(&hi));
+        let number = port::propagate(&nodes, &constraints, &mut lo, &mut hi)
+            .err()
+            .unwrap_or(0);
+        assert_eq!(number, expected);
+        if number != 0 {
+            assert_eq!(before, (hex(&lo), hex(&hi)));
+        }
+        tally.add(number);
+    }
+    tally.done(&[0, 2, 3, 4, 5, 6, 7, 9], 200);
+}
