@@ -8,7 +8,7 @@ use native.Mathlib.Numerals.{add-one}
 use native.Mathlib.Omega.{arith}
 use lib.Ieee.{Float, nan, binary64}
 use lib.ListN.{length, getD, set, take, drop, drop-of-length-le}
-use lib.Seq.{take-suc-set, take-all, drop-cons, getD-take, length-take-le}
+use lib.Seq.{take-suc-set, take-all, drop-cons}
 use Rattle.number.specs.Halving.{sound}
 use Rattle.interval.specs.Interval.{_‥_, isEmpty}
 use Rattle.interval.specs.Boxes.{intervals, missing, starting, anyEmpty, allSound}

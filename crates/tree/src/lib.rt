@@ -126,18 +126,18 @@ pub fn larger(x: usize, y: usize) -> usize
     x
 }
 
-fn measure_eml(l: usize, r: usize, size: &[usize; 1024], depth: &[usize; 1024]) -> Sized
+fn measure_eml(l: usize, r: usize, size: &[u16; 1024], depth: &[u8; 1024]) -> Sized
     requires { ⌜ KnownBoth l r (now size) (now depth) ⌝ }
     ensures { λ x. ⌜ (x .size ≡ 1 + getD (now (size .entry)) l 0 + getD (now (size .entry)) r 0) × (x .depth ≡ 1 + max (getD (now (depth .entry)) l 0) (getD (now (depth .entry)) r 0)) ⌝ }
 {
     Sized {
-        size: 1 + size[l] + size[r],
-        depth: 1 + larger(depth[l], depth[r]),
+        size: 1 + size[l] as usize + size[r] as usize,
+        depth: 1 + larger(depth[l] as usize, depth[r] as usize),
     }
 }
 
 // A node's, by those of the nodes before it.
-fn measure(node: Node, size: &[usize; 1024], depth: &[usize; 1024]) -> Sized
+fn measure(node: Node, size: &[u16; 1024], depth: &[u8; 1024]) -> Sized
     requires { ⌜ Known node (now size) (now depth) ⌝ }
     ensures { λ r. ⌜ (r .size ≡ sizeBy node (now (size .entry))) × (r .depth ≡ depthBy node (now (depth .entry))) ⌝ }
 {
@@ -150,7 +150,7 @@ fn measure(node: Node, size: &[usize; 1024], depth: &[usize; 1024]) -> Sized
 }
 
 // Each of count nodes: 3, then 4. The sizes and depths of those that pass are left in the two arrays.
-fn test_nodes(nodes: &[u8], count: usize, size: &mut [usize; 1024], depth: &mut [usize; 1024]) -> u8
+fn test_nodes(nodes: &[u8], count: usize, size: &mut [u16; 1024], depth: &mut [u8; 1024]) -> u8
     requires { ⌜ (count ≤ 1024) × (16 * count ≤ length (now nodes)) × (length (now size) ≡ 1024) × (length (now depth) ≡ 1024) ⌝ }
     ensures { λ r. ⌜ r ≡ nodesRefusal (now (nodes .entry)) count ⌝ }
     ensures { λ _. ⌜ now (size .exit) ≡ filled (sizeAt (now (nodes .entry))) (passing (nodeRefusal (now (nodes .entry))) count) (now (size .entry)) ⌝ }
@@ -168,8 +168,8 @@ fn test_nodes(nodes: &[u8], count: usize, size: &mut [usize; 1024], depth: &mut 
         if 128 < m.depth {
             return 4;
         }
-        size[k] = m.size;
-        depth[k] = m.depth;
+        size[k] = m.size as u16;
+        depth[k] = m.depth as u8;
         k += 1;
     }
     0
@@ -190,8 +190,8 @@ pub fn test_list(nodes: &[u8], count: usize) -> u8
     ensures { λ r. ⌜ r ≡ listRefusal (now (nodes .entry)) count ⌝ }
 {
     if nodes_fit(nodes.len(), count) {
-        let mut size = [0usize; 1024];
-        let mut depth = [0usize; 1024];
+        let mut size = [0u16; 1024];
+        let mut depth = [0u8; 1024];
         return test_nodes(nodes, count, &mut size, &mut depth);
     }
     2
@@ -280,8 +280,8 @@ fn measure_operands(nodes: &[u8], count: usize, x: usize, y: usize) -> Operands
     if !nodes_fit(nodes.len(), count) {
         return refused(2);
     }
-    let mut size = [0usize; 1024];
-    let mut depth = [0usize; 1024];
+    let mut size = [0u16; 1024];
+    let mut depth = [0u8; 1024];
     let r = test_nodes(nodes, count, &mut size, &mut depth);
     if r != 0 {
         return refused(r);
@@ -293,12 +293,12 @@ fn measure_operands(nodes: &[u8], count: usize, x: usize, y: usize) -> Operands
         return refused(3);
     }
     let a = Sized {
-        size: size[x],
-        depth: depth[x],
+        size: size[x] as usize,
+        depth: depth[x] as usize,
     };
     let b = Sized {
-        size: size[y],
-        depth: depth[y],
+        size: size[y] as usize,
+        depth: depth[y] as usize,
     };
     Operands {
         refusal: 0,

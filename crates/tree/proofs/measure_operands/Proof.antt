@@ -1,10 +1,14 @@
 -- `tree::measure_operands` meets its contract: each way out is the next refusal in order. Assumes nothing.
-use Prim.Native.Nat.{_≤_}
+use Prim.Native.Nat.{_≤_, ℕ, _<_}
 use mathlib.Core.Path.{_∙_, refl, sym}
 use native.Mathlib.Omega.{arith}
 use borrow.Author.Tests.{not-true, not-false}
 use borrow.Author.Needs.{needs}
+use denote.Ref.{now}
+use lib.ListN.{getD}
 use Rattle.tree.specs.NodeLaws.{fit-parts}
+use Rattle.tree.specs.Nodes.{treeAt}
+use Rattle.tree.specs.Code.{Measured}
 use Rattle.tree.proofs.Append.{no-list, bad-list, no-x, no-y, named, valid, measured}
 use Rattle.tree.proofs.measure_operands.Statement.{statement}
 use Rattle.tree.proofs.measure_operands.Tie as tie
@@ -48,18 +52,23 @@ few c =
     let at6 = c .before .before .before .before .before .before in
     fit-parts _ _ (sym (at6 .before .nodes-fit .ensures) ∙ not-false _ (at6 .if1 .left)) .0
 
+-- what the arrays hold of a node of the list
+held : (c : tie.Else4) (i : ℕ) → let at9 = c .before .before .before .before .before .before .before .before .before in i < at9 .args .count →
+    let l = c .before .before .before .test-nodes .last in Measured (treeAt (now (at9 .args .nodes)) i) (record { size = getD (l .1 .1 .0) i 0; depth = getD (l .1 .1 .1 .0) i 0 })
+held c i h =
+    let at3 = c .before .before .before in
+    let at6 = at3 .before .before .before in
+    let at9 = at6 .before .before .before in
+    let none = sym (c .before .before .if2 .left) ∙ at3 .test-nodes .ensures .0 in
+    let v = valid _ _ (at9 .args .x) (at9 .args .y) (sym (at6 .before .nodes-fit .ensures) ∙ not-false _ (at6 .if1 .left)) none in
+    let e = at3 .test-nodes .ensures .1 in
+    measured _ _ none v i h _ (few c) _ _ (e .0) (e .1)
+
 returns-5 : tie.Need-returns-5
 returns-5 c =
-    let at3 = c .before .before .before in
-    let at7 = at3 .before .before .before .before in
-    let at9 = at7 .before .before in
-    let f = (sym (at7 .nodes-fit .ensures) ∙ not-false _ (at3 .before .before .before .if1 .left)) in
-    let z = (sym (c .before .before .if2 .left) ∙ at3 .test-nodes .ensures .0) in
-    let w = fit-parts _ _ f in
-    let v = valid _ _ (at9 .args .x) (at9 .args .y) f z in
-    let e = at3 .test-nodes .ensures .1 in (
-      named _ _ _ _ f z (c .before .if3 .left) (c .if4 .left),
-      λ _. (measured _ _ z v _ (c .before .if3 .left) _ (w .0) _ _ (e .0) (e .1), measured _ _ z v _ (c .if4 .left) _ (w .0) _ _ (e .0) (e .1)),
+    let at6 = c .before .before .before .before .before .before in (
+      named _ _ _ _ (sym (at6 .before .nodes-fit .ensures) ∙ not-false _ (at6 .if1 .left)) (sym (c .before .before .if2 .left) ∙ c .before .before .before .test-nodes .ensures .0) (c .before .if3 .left) (c .if4 .left),
+      λ _. (held c _ (c .before .if3 .left), held c _ (c .if4 .left)),
     )
 
 pub measure-operands-spec : {M : Type 1} → statement M
@@ -78,10 +87,12 @@ measure-operands-spec =
     returns-4
     (λ c. omega (arith, few c))
     (λ c. omega (arith, few c))
+    (λ c. omega (arith, held c _ (c .before .if3 .left) .small))
+    (λ c. omega (arith, few c))
+    (λ c. omega (arith, held c _ (c .before .if3 .left) .shallow))
     (λ c. omega (arith, few c))
     (λ c. omega (arith, few c))
+    (λ c. omega (arith, held c _ (c .if4 .left) .small))
     (λ c. omega (arith, few c))
-    (λ c. omega (arith, few c))
-    (λ c. omega (arith, few c))
-    (λ c. omega (arith, few c))
+    (λ c. omega (arith, held c _ (c .if4 .left) .shallow))
     returns-5)

@@ -68,12 +68,11 @@ returns-3 c =
 
 loop-again : tie.Need-loop-again Inv-loop μ-loop
 loop-again c =
-    let at4 = c .before .before .before .before in
-    let at10 = at4 .before .before .before .before .before .before in
-    let m = at4 in
+    let m = c .before .before .before .before .before .before in
+    let at12 = m .before .before .before .before .before .before in
     let w = measured m in (
       omega arith,
-      next _ _ _ _ _ _ (at10 .before .loop .inv .1) _ (at10 .loop-test .taken) (omega arith) (omega arith) (is m) _ _ (w .0) (w .1) (c .before .before .if2 .left) (c .if3 .left),
+      next _ _ _ _ _ _ (at12 .before .loop .inv .1) _ (at12 .loop-test .taken) (omega arith) (omega arith) (is m) _ _ (w .0) (w .1) (c .before .before .before .before .if2 .left) (c .before .before .if3 .left),
     )
 
 returns-4 : tie.Need-returns-4 Inv-loop μ-loop
@@ -92,6 +91,7 @@ test-nodes-spec =
     measure-requires
     returns-2
     returns-3
+    (λ c. omega arith)
     (λ c. omega arith)
     (λ c. omega arith)
     (λ c. omega arith)
