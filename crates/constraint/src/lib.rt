@@ -272,7 +272,7 @@ fn num_vars_all(
     tree::larger(before, last)
 }
 
-fn kind_of(rel: Relation) -> u32
+pub fn kind_of(rel: Relation) -> u32
     ensures { λ r. ⌜ r ≡ kindOf rel ⌝ }
 {
     match rel {

@@ -1,0 +1,97 @@
+-- The loop that counts, and the ways out of the call on records that are given. Assumes nothing.
+use Prim.Native.Nat.{ℕ, zero, suc, _+_, _-_, _*_, _/_, _≤_, _<_}
+use mathlib.Core.Path.{_≡_, refl, sym, ap, ap₂, _∙_}
+use mathlib.Core.Bool.{Bool}
+use mathlib.Core.List.{List}
+use native.Mathlib.Nat.{zero-add}
+use native.Mathlib.Numerals.{add-one}
+use native.Mathlib.Omega.{arith}
+use borrow.Author.Tests.{lt-leb, le-leb}
+use lib.Dec.{leb}
+use lib.ListN.{length}
+use Rattle.tree.specs.Refusal.{_or-else_, _unless_}
+use Rattle.tree.specs.RefusalLaws.{none-both}
+use Rattle.tree.specs.Nodes.{nodesRefusal}
+use Rattle.constraint.specs.declared.Record.{Record}
+use Rattle.constraint.specs.Constraint.{Constraint}
+use Rattle.constraint.specs.Records.{recordAt, finished}
+use Rattle.constraint.specs.Starts.{Ready}
+use Rattle.constraint.specs.RecordLaws.{one-left, root}
+use Rattle.file.specs.File.{isCounted, left, givenRefusal}
+use Rattle.normal.specs.NormalForm.{toNnf}
+use Rattle.normal.specs.Written.{numbers, recordsOf, nnfAt, Puts}
+use Rattle.normal.specs.Renaming.{height-renamed, renumbered}
+use Rattle.normal.specs.Given.{keptOf, countKept, _leaving_, nnfRecords, nnfRefusal, written, toNnfGiven}
+use Rattle.normal.specs.Counting.{nnf-count}
+use Rattle.normal.specs.declared.Nnf.{Nnf}
+
+pub kept-next : (b : List ℕ) (k : ℕ) {count x : ℕ} {r : Record} → count ≡ countKept b k → r ≡ recordAt b k → x ≡ keptOf r → count + x ≡ countKept b (k + 1)
+unfolding countKept
+kept-next b k e f g = ap₂ (λ (c x : ℕ). c + x) e (g ∙ ap keptOf f) ∙ ap (countKept b) (sym (add-one k))
+
+one-at-most : (r : Record) → keptOf r ≤ 1
+one-at-most (Record.Atom rel i) = omega arith
+one-at-most Record.Not = omega arith
+one-at-most (Record.And m) = omega arith
+one-at-most (Record.Or m) = omega arith
+one-at-most (Record.ForAll v lo hi) = omega arith
+one-at-most (Record.Exists v lo hi) = omega arith
+
+pub kept-few : (b : List ℕ) (k : ℕ) → countKept b k ≤ k
+unfolding countKept
+kept-few b zero = omega arith
+kept-few b (suc k) = omega (arith, kept-few b k, one-at-most (recordAt b k))
+
+-- ---- the call
+module _ (nodes b out : List ℕ) where
+  by : (r : ℕ) → nnfRefusal nodes b out ≡ r → written r (nnfRecords b (length b / 24)) out ≡ toNnfGiven nodes b out
+  unfolding toNnfGiven
+  by r e = ap (λ (n : ℕ). written n (nnfRecords b (length b / 24)) out) (sym e)
+
+  refused : (r : ℕ) (rs : List Record) → (r ≡ 0 → ⊥) → (Nnf.Refused r leaving out) ≡ written r rs out
+  refused zero rs h = absurd (h refl)
+  refused (suc r) rs h = refl
+
+  first-refusal : (g x r : ℕ) → r ≡ g → (r ≡ 0 → ⊥) → (g or-else x) ≡ r
+  first-refusal zero x r e h = absurd (h e)
+  first-refusal (suc g) x r e h = sym e
+
+  pub records-refused : (r : ℕ) → r ≡ givenRefusal nodes b → (r ≡ 0 → ⊥) → (Nnf.Refused r leaving out) ≡ toNnfGiven nodes b out
+  unfolding nnfRefusal
+  records-refused r e h = refused r (nnfRecords b (length b / 24)) h ∙ by r (first-refusal (givenRefusal nodes b) _ r e h)
+
+  module _ (e : givenRefusal nodes b ≡ 0) (starts : List ℕ) (p : Ready nodes b (length b / 24) starts) where
+    one : length (finished nodes b (length b / 24)) ≡ 1
+    unfolding givenRefusal
+    one =
+        let w = none-both (2 unless isCounted nodes b) _ e in
+        one-left nodes (length nodes / 16) b (length b / 24) (none-both (nodesRefusal nodes (length nodes / 16)) _ (w .1) .1)
+
+    one-number : length (finished numbers b (length b / 24)) ≡ 1
+    one-number = sym (height-renamed nodes b (length b / 24) starts p (length b / 24) (omega arith)) ∙ one
+
+    pub records-are : nnfRecords b (length b / 24) ≡ nnfAt b (length b / 24 - 1)
+    unfolding nnfRecords nnfAt left
+    records-are = ap (λ (c : Constraint). recordsOf (toNnf c)) (root numbers b (length b / 24) one-number .1)
+
+    counted : length (nnfRecords b (length b / 24)) ≡ countKept b (length b / 24)
+    unfolding nnfRecords left
+    counted = nnf-count numbers b (length b / 24) starts (renumbered nodes b (length b / 24) starts p) one-number
+
+    refusal-is : nnfRefusal nodes b out ≡ 10 unless leb (24 * countKept b (length b / 24)) (length out)
+    unfolding nnfRefusal
+    refusal-is = rw (e, counted)
+
+    module _ {c : ℕ} (f : c ≡ countKept b (length b / 24)) where
+      pub too-short : length out < 24 * c → (Nnf.Refused 10 leaving out) ≡ toNnfGiven nodes b out
+      too-short h = by 10 (refusal-is ∙ ap (λ (t : Bool). 10 unless t) (lt-leb (24 * countKept b (length b / 24)) (length out) (omega arith)))
+
+      pub room : 24 * c ≤ length out → 24 * (0 + length (nnfAt b (length b / 24 - 1))) ≤ length out
+      room h = omega (arith, ap length records-are, counted)
+
+      pub wrote : {new : List ℕ} {n : ℕ} → 24 * c ≤ length out → Puts out new 0 n (nnfAt b (length b / 24 - 1)) → (Nnf.Records n leaving new) ≡ toNnfGiven nodes b out
+      unfolding toNnfGiven
+      wrote h q =
+          ap₂ (λ (n : ℕ) (l : List ℕ). Nnf.Records n leaving l) (q .counted ∙ zero-add _) (q .put)
+          ∙ ap (λ (rs : List Record). written 0 rs out) (sym records-are)
+          ∙ by 0 (refusal-is ∙ ap (λ (t : Bool). 10 unless t) (le-leb (24 * countKept b (length b / 24)) (length out) (omega arith)))

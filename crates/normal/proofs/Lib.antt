@@ -1,0 +1,4 @@
+-- Laws that several proofs cite.
+mod Putting
+mod Forms
+mod Calls

@@ -1,0 +1,47 @@
+-- `to_nnf` on records that a caller gives: the refusals, and the answer with the output slice at exit.
+use Prim.Native.Nat.{ℕ, zero, suc, _+_, _*_, _/_}
+use mathlib.Core.List.{List}
+use lib.Dec.{leb}
+use lib.ListN.{length}
+use lib.Seq.{sets}
+use Rattle.tree.specs.Refusal.{_or-else_, _unless_}
+use Rattle.constraint.specs.declared.Record.{Record}
+use Rattle.constraint.specs.Records.{recordAt}
+use Rattle.file.specs.File.{left, givenRefusal}
+use Rattle.normal.specs.NormalForm.{toNnf}
+use Rattle.normal.specs.Written.{numbers, recordsOf, recordsBytes}
+use Rattle.normal.specs.declared.Nnf.{Nnf}
+
+-- how many records are no Not
+abbrev pub keptOf : Record → ℕ
+keptOf (Record.Atom rel i) = 1
+keptOf Record.Not = 0
+keptOf (Record.And m) = 1
+keptOf (Record.Or m) = 1
+keptOf (Record.ForAll v lo hi) = 1
+keptOf (Record.Exists v lo hi) = 1
+
+unfoldable pub countKept : List ℕ → ℕ → ℕ
+countKept b zero = 0
+countKept b (suc k) = countKept b k + keptOf (recordAt b k)
+
+-- ---- the answer, and the output at exit
+infix 20 _leaving_
+pub data Outcome : Type 0 where
+  _leaving_ : Nnf → List ℕ → Outcome
+
+-- the records of the normal form of the constraint that n records leave
+unfoldable pub nnfRecords : List ℕ → ℕ → List Record
+nnfRecords b n = recordsOf (toNnf (left numbers b n))
+
+-- 2 to 7 for the records; 10 where the output slice is too short
+unfoldable pub nnfRefusal : List ℕ → List ℕ → List ℕ → ℕ
+nnfRefusal nodes b out = givenRefusal nodes b or-else 10 unless leb (24 * length (nnfRecords b (length b / 24))) (length out)
+
+-- a refusal alters nothing; else the number of records, written from the start, and the places past the last one stay
+abbrev pub written : ℕ → List Record → List ℕ → Outcome
+written (suc r) rs out = Nnf.Refused (suc r) leaving out
+written zero rs out = Nnf.Records (length rs) leaving sets out 0 (recordsBytes rs)
+
+unfoldable pub toNnfGiven : List ℕ → List ℕ → List ℕ → Outcome
+toNnfGiven nodes b out = written (nnfRefusal nodes b out) (nnfRecords b (length b / 24)) out
