@@ -112,6 +112,15 @@ mod raw {
             hi_length: usize,
             answer: *mut u8,
         ) -> u8;
+        pub fn eml_to_nnf(
+            nodes: *const u8,
+            nodes_length: usize,
+            constraints: *const u8,
+            constraints_length: usize,
+            out: *mut u8,
+            out_length: usize,
+            records: *mut usize,
+        ) -> u8;
         pub fn eml_interval_is_empty(lo: f64, hi: f64) -> bool;
         pub fn eml_interval_width(lo: f64, hi: f64) -> f64;
         pub fn eml_interval_midpoint(lo: f64, hi: f64) -> f64;
@@ -316,6 +325,24 @@ pub fn propagate(
         _ => PropResult::Conflict,
     };
     refused_unless_zero(number, result)
+}
+
+/// Writes the records of the normal form; their number.
+pub fn to_nnf(nodes: &[u8], constraints: &[u8], out: &mut [u8]) -> Result<usize, Refusal> {
+    let mut records = usize::MAX;
+    let number = unsafe {
+        raw::eml_to_nnf(
+            nodes.as_ptr(),
+            nodes.len(),
+            constraints.as_ptr(),
+            constraints.len(),
+            out.as_mut_ptr(),
+            out.len(),
+            &mut records,
+        )
+    };
+    assert_eq!(number == 0, records != usize::MAX);
+    refused_unless_zero(number, records)
 }
 
 /// Appends the nodes of ln x to a list of `count` nodes; the number of the last one.

@@ -1,4 +1,4 @@
-//! `propagate` against the Rust's: the answer and every bit of every box, also after a Conflict.
+//! `propagate` against the Rust's: the answer and every bit of every box, also after a Conflict. And `to_nnf`, record by record.
 
 use reference::compare::{Tally, hex, say};
 use reference::generate::{self, Shape, Temper};
@@ -119,4 +119,53 @@ fn refusals() {
         tally.add(number);
     }
     tally.done(&[0, 2, 3, 4, 5, 6, 7, 9], 200);
+}
+
+/// Record by record; places past the last one written, and refused outputs, keep their bytes.
+#[test]
+fn normal_forms() {
+    let mut rng = SplitMix64::new(63);
+    let mut tally = Tally::new("to_nnf");
+    for _ in 0..100_000 {
+        let (nodes, constraints) = if rng.one_in(3) {
+            generate::any_records(&mut rng)
+        } else {
+            let shape = Shape::any(&mut rng);
+            let bodies = generate::problem(&mut rng, &shape).to_bodies();
+            (bodies.nodes, bodies.constraints)
+        };
+        let (expected, normal) = match house::read_records(&nodes, &constraints) {
+            Err(number) => (number, Vec::new()),
+            Ok(problem) => {
+                let normal = problem.constraint.clone().to_nnf();
+                let records = house::records_of(&normal, &problem.trees);
+                (0, house::constraint_bytes(&records))
+            }
+        };
+        let room = match rng.below(4) {
+            0 => normal.len(),
+            1 => normal.len().saturating_sub(1 + rng.below(24)),
+            _ => normal.len() + rng.below(60),
+        };
+        let expected = if expected == 0 && room < normal.len() {
+            10
+        } else {
+            expected
+        };
+        let before: Vec<u8> = (0..room).map(|_| rng.draw() as u8).collect();
+        let mut out = before.clone();
+        match port::to_nnf(&nodes, &constraints, &mut out) {
+            Err(number) => {
+                assert_eq!(number, expected);
+                assert_eq!(out, before);
+            }
+            Ok(written) => {
+                assert_eq!((expected, 24 * written), (0, normal.len()));
+                assert_eq!(out[..normal.len()], normal);
+                assert_eq!(out[normal.len()..], before[normal.len()..]);
+            }
+        }
+        tally.add(expected);
+    }
+    tally.done(&[0, 2, 3, 4, 5, 6, 7, 10], 200);
 }

@@ -1,3 +1,4 @@
 pub mod Exported
 pub mod Pointed
 pub mod Narrowed
+pub mod Normalised

@@ -4,5 +4,6 @@ mod canonical;
 mod intervals;
 mod mathematics;
 mod narrowing;
+mod normal_form;
 mod points;
 mod reading;
