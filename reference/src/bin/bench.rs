@@ -3,9 +3,12 @@
 //! Both sides take turns over the rounds. Each time is the median of the rounds, and the ratio is the median of the
 //! rounds' ratios, so that a disturbance of the machine in one round does not count.
 
+use reference::eval::EvalCtx;
 use reference::generate::{self, Shape};
-use reference::house;
+use reference::house::{self, Bodies, Problem};
 use reference::port;
+use reference::smt::helpers::evaluate_constraint_residual;
+use reference::smt::interval::{Interval, IntervalDomain};
 use reference::splitmix::SplitMix64;
 use reference::standins::{self, Complex64};
 use std::hint::black_box;
@@ -45,7 +48,7 @@ fn line(name: &str, calls: usize, mut rust: impl FnMut(), mut port: impl FnMut()
     let ratios = rust_times.iter().zip(&port_times).map(|(r, p)| p / r);
     let ratio = median(ratios.collect());
     let (rust, port) = (median(rust_times), median(port_times));
-    println!("{name:<14} {rust:>10.2} {port:>10.2} {ratio:>7.3}");
+    println!("{name:<24} {rust:>10.2} {port:>10.2} {ratio:>7.3}");
 }
 
 /// A line for a function of one number.
@@ -138,6 +141,120 @@ fn reading() {
     }
 }
 
+/// A problem as each side gets it, with a point.
+struct Case {
+    problem: Problem,
+    bodies: Bodies,
+    point: Vec<f64>,
+}
+
+fn case(rng: &mut SplitMix64, shape: &Shape) -> Case {
+    let parts = generate::problem(rng, shape);
+    let bodies = parts.to_bodies();
+    let problem = house::read_file(&parts.to_file()).expect("a sound file");
+    let point = (0..shape.variables)
+        .map(|_| rng.uniform(-2.0, 2.0))
+        .collect();
+    Case {
+        problem,
+        bodies,
+        point,
+    }
+}
+
+fn value(problem: &Problem, point: &[f64]) {
+    let tree = problem.trees.last().expect("a node");
+    black_box(tree.eval_real(&EvalCtx::new(point)).is_ok());
+}
+
+fn residual(problem: &Problem, point: &[f64]) {
+    black_box(evaluate_constraint_residual(&problem.constraint, point));
+}
+
+fn propagate(problem: &Problem, bounds: &[(f64, f64)]) {
+    let vars = bounds.iter().map(|&(lo, hi)| Interval::new(lo, hi));
+    let mut domain = IntervalDomain {
+        vars: vars.collect(),
+    };
+    black_box(domain.propagate(&problem.constraint));
+}
+
+/// Two lines: the Rust reads the records in each call, as the port does, and the Rust has built its trees before.
+fn both_ways(
+    name: &str,
+    cases: &[Case],
+    rust: impl Fn(&Problem, &Case),
+    mut port: impl FnMut(&Case),
+) {
+    let mut port = || {
+        for c in cases {
+            port(c);
+        }
+    };
+    let reading = || {
+        for c in cases {
+            let read = house::read_records(&c.bodies.nodes, &c.bodies.constraints);
+            rust(&read.expect("sound"), c);
+        }
+    };
+    line(name, cases.len(), reading, &mut port);
+    let built = || {
+        for c in cases {
+            rust(&c.problem, c);
+        }
+    };
+    line(&format!("{name}, built"), cases.len(), built, &mut port);
+}
+
+/// Values, residuals and narrowed boxes of problems like the house's, and of larger ones.
+fn solving() {
+    let mut rng = SplitMix64::new(3);
+    let mut many = |shape: fn(&mut SplitMix64) -> Shape| -> Vec<Case> {
+        let mut cases = Vec::new();
+        while cases.len() < 300 {
+            let shape = shape(&mut rng);
+            let made = case(&mut rng, &shape);
+            if !made.problem.trees.is_empty() {
+                cases.push(made);
+            }
+        }
+        cases
+    };
+    for (size, cases) in [
+        ("small", many(Shape::narrowing)),
+        ("medium", many(Shape::medium)),
+    ] {
+        both_ways(
+            &format!("eval, {size}"),
+            &cases,
+            |problem, c| value(problem, &c.point),
+            |c| {
+                let last = c.problem.trees.len() - 1;
+                black_box(port::eval_real(&c.bodies.nodes, last, &c.point).is_ok());
+            },
+        );
+        both_ways(
+            &format!("residual, {size}"),
+            &cases,
+            |problem, c| residual(problem, &c.point),
+            |Case { bodies, point, .. }| {
+                black_box(port::residual(&bodies.nodes, &bodies.constraints, point).is_ok());
+            },
+        );
+        both_ways(
+            &format!("propagate, {size}"),
+            &cases,
+            |problem, c| propagate(problem, &c.problem.bounds),
+            |c| {
+                let bounds = c.problem.bounds.iter().copied();
+                let (mut lo, mut hi): (Vec<f64>, Vec<f64>) = bounds.unzip();
+                let (nodes, constraints) = (&c.bodies.nodes, &c.bodies.constraints);
+                black_box(port::propagate(nodes, constraints, &mut lo, &mut hi).is_ok());
+            },
+        );
+    }
+}
+
 fn main() {
     let mut rng = SplitMix64::new(1);
     let mut many = |lo: f64, hi: f64| -> Vec<f64> {
@@ -153,7 +270,7 @@ fn main() {
     let subnormal: Vec<f64> = (0..CALLS).map(|_| rng.subnormal().abs()).collect();
 
     println!(
-        "{:<14} {:>10} {:>10} {:>7}",
+        "{:<24} {:>10} {:>10} {:>7}",
         "call", "ns Rust", "ns port", "ratio"
     );
     unary("exp", &ordinary, standins::exp, port::exp);
@@ -179,4 +296,5 @@ fn main() {
     binary("complex exp", &pairs, rust_exp, port::complex_exp);
     binary("complex ln", &pairs, rust_ln, port::complex_ln);
     reading();
+    solving();
 }
