@@ -1,0 +1,91 @@
+-- `nra::settle` meets its contract. Assumes nothing.
+use mathlib.Core.Path.{refl}
+use borrow.Author.Needs.{needs}
+use Rattle.nra.proofs.Steps.{settle-conflict, settle-changed, settle-stable, working-after}
+use Rattle.nra.proofs.settle.Statement.{statement}
+use Rattle.nra.proofs.settle.Tie as tie
+
+propagate-requires : tie.Need-propagate-requires
+propagate-requires c κs = search needs
+
+enum-told : tie.Need-enum-told
+enum-told c = search needs
+
+enum-told-2 : tie.Need-enum-told-2
+enum-told-2 c = search needs
+
+settle-checked-requires : tie.Need-settle-checked-requires
+settle-checked-requires c κs =
+    let s = c .before .before .before .before .before .before .before .before .before .before .before .before .before .before .before .before .before .before .before in
+    (s .pre .0, working-after (s .pre .1) (c .before .before .before .before .before .before .before .before .before .before .propagate .kept .1 .1 .1 .1 .1 .0) (c .before .before .before .before .before .before .before .before .before .before .propagate .kept .1 .1 .1 .1 .1 .1 .0) refl refl)
+
+enum-told-3 : tie.Need-enum-told-3
+enum-told-3 c = search needs
+
+settle-checked-requires-2 : tie.Need-settle-checked-requires-2
+settle-checked-requires-2 c κs =
+    let s = c .before .before .before .before .before .before .before .before .before .before .before .before .before .before .before .before .before .before .before in
+    (s .pre .0, working-after (s .pre .1) (c .before .before .before .before .before .before .before .before .before .before .propagate .kept .1 .1 .1 .1 .1 .0) (c .before .before .before .before .before .before .before .before .before .before .propagate .kept .1 .1 .1 .1 .1 .1 .0) refl refl)
+
+same-length : tie.Need-same-length
+same-length c = search needs
+
+same-length-2 : tie.Need-same-length-2
+same-length-2 c = search needs
+
+returns : tie.Need-returns
+returns c = λ bounds h. settle-conflict _ _ _ _ _ (c .before .before .before .before .before .before .propagate .ensures) bounds _ h (c .enum-told .given .1)
+
+same-length-3 : tie.Need-same-length-3
+same-length-3 c = search needs
+
+same-length-4 : tie.Need-same-length-4
+same-length-4 c = search needs
+
+same-length-5 : tie.Need-same-length-5
+same-length-5 c = search needs
+
+same-length-6 : tie.Need-same-length-6
+same-length-6 c = search needs
+
+returns-2 : tie.Need-returns-2
+returns-2 c = λ bounds h. settle-changed _ _ _ _ _ (c .before .before .before .before .before .before .before .before .before .before .before .before .before .before .before .propagate .ensures) bounds _ h (c .before .before .before .before .before .before .before .before .before .enum-told2 .given .1) (c .before .before .before .before .settle-checked .ensures bounds h)
+
+same-length-7 : tie.Need-same-length-7
+same-length-7 c = search needs
+
+same-length-8 : tie.Need-same-length-8
+same-length-8 c = search needs
+
+same-length-9 : tie.Need-same-length-9
+same-length-9 c = search needs
+
+same-length-10 : tie.Need-same-length-10
+same-length-10 c = search needs
+
+returns-3 : tie.Need-returns-3
+returns-3 c = λ bounds h. settle-stable _ _ _ _ _ (c .before .before .before .before .before .before .before .before .before .before .before .before .before .before .before .propagate .ensures) bounds _ h (c .before .before .before .before .before .before .before .before .before .enum-told3 .given .1) (c .before .before .before .before .settle-checked2 .ensures bounds h)
+
+pub settle-spec : {M : Type 1} → statement M
+settle-spec =
+    tie.close
+    (tie.spec
+    propagate-requires
+    enum-told
+    enum-told-2
+    settle-checked-requires
+    enum-told-3
+    settle-checked-requires-2
+    same-length
+    same-length-2
+    returns
+    same-length-3
+    same-length-4
+    same-length-5
+    same-length-6
+    returns-2
+    same-length-7
+    same-length-8
+    same-length-9
+    same-length-10
+    returns-3)

@@ -1,0 +1,66 @@
+-- `nra::solve` meets its contract. Assumes nothing.
+use mathlib.Core.Path.{refl, sym, _∙_}
+use borrow.Author.Tests.{not-false}
+use borrow.Author.Needs.{needs}
+use Rattle.file.specs.FileLaws.{some-given, given-ready}
+use Rattle.nra.proofs.Calling.{refused-given, refused-limit, refused-boxes, solved-given, last-given}
+use Rattle.nra.proofs.Tests.{as-many}
+use Rattle.nra.proofs.solve.Statement.{statement}
+use Rattle.nra.proofs.solve.Tie as tie
+
+test-given-requires : tie.Need-test-given-requires
+test-given-requires c κs = search needs
+
+refused-requires : tie.Need-refused-requires
+refused-requires c κs = search needs
+
+returns : tie.Need-returns
+returns c = refused-given _ _ _ _ _ _ (c .before .before .test-given .ensures .0) (c .before .if1 .taken) (c .refused .ensures)
+
+limit-refusal-requires : tie.Need-limit-refusal-requires
+limit-refusal-requires c κs = search needs
+
+refused-requires-2 : tie.Need-refused-requires-2
+refused-requires-2 c κs = search needs
+
+returns-2 : tie.Need-returns-2
+returns-2 c = refused-limit _ _ _ _ _ _ (sym (c .before .before .before .before .test-given .ensures .0) ∙ c .before .before .before .if1 .left) (c .before .before .limit-refusal .ensures) (c .before .if2 .taken) (c .refused2 .ensures)
+
+are-boxes-requires : tie.Need-are-boxes-requires
+are-boxes-requires c κs = search needs
+
+refused-requires-3 : tie.Need-refused-requires-3
+refused-requires-3 c κs = search needs
+
+returns-3 : tie.Need-returns-3
+returns-3 c = refused-boxes _ _ _ _ _ _ (sym (c .before .before .before .before .before .before .test-given .ensures .0) ∙ c .before .before .before .before .before .if1 .left) (c .before .before .before .before .limit-refusal .ensures) (c .before .before .before .if2 .left) (c .before .before .are-boxes .ensures) (c .before .if3 .taken) (c .refused3 .ensures)
+
+sub-k : tie.Need-sub-k
+sub-k c = some-given _ _ (sym (c .before .before .before .before .before .test-given .ensures .0) ∙ c .before .before .before .before .if1 .left)
+
+usual-requires : tie.Need-usual-requires
+usual-requires c κs = search needs
+
+solve-in-requires : tie.Need-solve-in-requires
+solve-in-requires c κs = let e = sym (c .before .before .before .before .before .before .before .test-given .ensures .0) ∙ c .before .before .before .before .before .before .if1 .left in (last-given _ _ e _ (given-ready _ _ e _ _ refl (c .before .before .before .before .before .before .before .test-given .ensures .1)), as-many _ _ (sym (c .before .before .before .are-boxes .ensures) ∙ not-false _ (c .before .before .if3 .left)))
+
+returns-4 : tie.Need-returns-4
+returns-4 c = solved-given _ _ _ _ _ _ (sym (c .before .before .before .before .before .before .before .before .test-given .ensures .0) ∙ c .before .before .before .before .before .before .before .if1 .left) (c .before .before .before .before .before .before .limit-refusal .ensures) (c .before .before .before .before .before .if2 .left) (c .before .before .before .before .are-boxes .ensures) (c .before .before .before .if3 .left) (c .before .usual .ensures) (c .solve-in .ensures)
+
+pub solve-spec : {M : Type 1} → statement M
+solve-spec =
+    tie.close
+    (tie.spec
+    test-given-requires
+    refused-requires
+    returns
+    limit-refusal-requires
+    refused-requires-2
+    returns-2
+    are-boxes-requires
+    refused-requires-3
+    returns-3
+    sub-k
+    usual-requires
+    solve-in-requires
+    returns-4)

@@ -1,0 +1,11 @@
+pub mod Solver
+pub mod Working
+pub mod Answers
+pub mod Calls
+pub mod Limit
+pub mod Passing
+pub mod InBox
+pub mod Promises
+pub mod Received
+pub mod Computing
+pub mod Examples
