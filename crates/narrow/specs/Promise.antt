@@ -44,7 +44,7 @@ abbrev pub AllHeld : List Float → Type 0
 AllHeld [] = Unit {0}
 AllHeld (x ∷ xs) = Held x × AllHeld xs
 
-boxes-sound : (lo hi : List Float) → AllHeld lo → AllHeld hi → allSound (intervals lo hi) ≡ true → Each Sound (intervals lo hi)
+pub boxes-sound : (lo hi : List Float) → AllHeld lo → AllHeld hi → allSound (intervals lo hi) ≡ true → Each Sound (intervals lo hi)
 unfolding intervals allSound
 boxes-sound [] hi p q e = tt
 boxes-sound (l ∷ lo) [] p q e = tt

@@ -1,5 +1,5 @@
 -- From a run that has ended to the answer, over plain values. Assumes nothing.
-use Prim.Native.Nat.{ℕ, zero, suc, _-_, _<_, _≤_}
+use Prim.Native.Nat.{ℕ, zero, suc, _-_, _≤_}
 use mathlib.Core.Path.{_≡_, refl, sym, ap, _∙_}
 use mathlib.Core.Bool.{Bool, true, false, _&&_}
 use mathlib.Core.List.{List, [], _++_}
@@ -8,7 +8,7 @@ use native.Mathlib.Omega.{arith}
 use borrow.Author.Tests.{lt-ltb}
 use lib.Dec.{ltb}
 use lib.Ieee.{Float}
-use lib.ListN.{length, take, drop, replicate, length-append, length-drop}
+use lib.ListN.{length, take, drop, replicate, length-append}
 use lib.Seq.{length-take-le, take-at}
 use Rattle.number.specs.Notation.{whole, +∞}
 use Rattle.settings.specs.declared.Settings.{Settings}
@@ -20,7 +20,7 @@ use Rattle.nra.specs.declared.Step.{Step}
 use Rattle.nra.specs.declared.Stop as Word
 use Rattle.nra.specs.declared.Solved.{Solved}
 use Rattle.nra.specs.Answers.{progressOf, pointless, padded, solvedOf, tried}
-use Rattle.nra.specs.Solver.{Answer, assignment, failed, Stop, Problem, Progress, Stopped, midpoints, beginEmpty, beginIn, beginAt, begin, run, untried, solve}
+use Rattle.nra.specs.Solver.{Answer, assignment, failed, Stop, Problem, Stopped, midpoints, beginEmpty, beginIn, beginAt, begin, run, untried, solve}
 use Rattle.nra.proofs.Loops.{midpoints-length}
 
 drop-same : (k n : ℕ) (z : Float) → drop k (replicate n z) ≡ replicate (n - k) z

@@ -1,6 +1,6 @@
 -- The ways out of the public calls, over plain values. Assumes nothing.
 use Prim.Native.Nat.{ℕ, zero, suc, _+_, _-_, _/_}
-use mathlib.Core.Path.{_≡_, refl, sym, ap, _∙_}
+use mathlib.Core.Path.{_≡_, refl, sym, _∙_}
 use mathlib.Core.Bool.{Bool, true, false, not}
 use mathlib.Core.List.{List}
 use native.Mathlib.Omega.{arith}
@@ -12,10 +12,9 @@ use Rattle.settings.specs.Settings.{usual}
 use Rattle.settings.specs.declared.Settings.{Settings}
 use Rattle.interval.specs.declared.Interval.{Interval}
 use Rattle.interval.specs.Boxes.{intervals, areBoxes}
-use Rattle.constraint.specs.Constraint.{Constraint}
 use Rattle.constraint.specs.Records.{constraintAt}
 use Rattle.constraint.specs.Starts.{Ready}
-use Rattle.file.specs.File.{nodesOf, constraintsOf, boundsOf, constraintCount, boundCount, bounds, refusal, Read, Refused, Accepted, readFile, givenRefusal, readGiven}
+use Rattle.file.specs.File.{nodesOf, constraintsOf, boundsOf, constraintCount, boundCount, bounds, refusal, Refused, readFile, givenRefusal, readGiven}
 use Rattle.file.specs.FileLaws.{some-constraint, read-is, last-is, some-given, given-is}
 use Rattle.nra.specs.declared.Solved.{Solved}
 use Rattle.nra.specs.Answers.{problem, solvedOf, refusedWith}

@@ -1,6 +1,6 @@
 -- The better half, over plain values. Assumes nothing.
 use Prim.Native.Nat.{ℕ, zero, suc, _+_, _<_, _≤_}
-use mathlib.Core.Path.{_≡_, refl, sym, ap, _∙_}
+use mathlib.Core.Path.{_≡_, sym, ap, _∙_}
 use mathlib.Core.Bool.{Bool, true, false}
 use mathlib.Core.List.{List, [], _∷_}
 use native.Mathlib.Nat.{not-suc-le-zero}
@@ -13,7 +13,7 @@ use Rattle.number.specs.Sign.{absOf}
 use Rattle.settings.specs.declared.Settings.{Settings}
 use Rattle.interval.specs.declared.Interval.{Interval}
 use Rattle.interval.specs.declared.Halves.{Halves}
-use Rattle.interval.specs.Interval.{_‥_, width, midpoint, split}
+use Rattle.interval.specs.Interval.{width, midpoint, split}
 use Rattle.interval.specs.Boxes.{missing, intervals}
 use Rattle.interval.specs.BoxLaws.{intervals-length, intervals-set}
 use Rattle.constraint.specs.Constraint.{Constraint}

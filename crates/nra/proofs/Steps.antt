@@ -18,7 +18,7 @@ use Rattle.point.specs.Residual.{residual}
 use Rattle.nra.specs.declared.Step.{Step}
 use Rattle.nra.specs.Working.{Working}
 use Rattle.nra.specs.Answers.{problem, progressOf, goes}
-use Rattle.nra.specs.Solver.{Problem, Answer, failed, limit, Progress, Stopped, Going, midpoints, allBelow, beginChecked, beginNarrowed, beginIn, halved, settleChecked, settle, settleIn, halve, atLimit, run}
+use Rattle.nra.specs.Solver.{Answer, failed, limit, Progress, Stopped, Going, midpoints, allBelow, beginChecked, beginNarrowed, beginIn, halved, settleChecked, settle, settleIn, halve, atLimit, run}
 
 -- ---- the check at the midpoint
 module _ (σ : Settings) (c : Constraint) (b : List Interval) {m : List Float} {passes : Bool} (middle : m ≡ midpoints b) (checked : passes ≡ check σ m c) where

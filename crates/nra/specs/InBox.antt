@@ -5,13 +5,13 @@ use mathlib.Core.Bool.{Bool, true, false}
 use mathlib.Core.List.{List, [], _∷_}
 use lib.Dec.{T}
 use lib.ListN.{getD}
-use lib.Ieee.{Float, binary64, fits, ofInt, le}
+use lib.Ieee.{Float, fits, ofInt, le}
 use lib.Ieee.Fits.{and-l, and-r}
 use Rattle.number.specs.Notation.{_≼_}
 use Rattle.number.specs.Order.{le-trans}
 use Rattle.settings.specs.declared.Settings.{Settings}
 use Rattle.interval.specs.declared.Interval.{Interval}
-use Rattle.interval.specs.Interval.{midpoint, contains, split}
+use Rattle.interval.specs.Interval.{midpoint, contains}
 use Rattle.interval.specs.Boxes.{missing, starting}
 use Rattle.interval.specs.Choices.{either}
 use Rattle.interval.specs.Inside.{Inside, Ends, Sound, Each, EachInside, Narrower, midpoint-inside, lower-inside, upper-inside, lower-sound, upper-sound, narrower-refl, narrower-trans, each-proper, each-sound, set-narrower}

@@ -1,15 +1,14 @@
 -- Demand 3: raising the limit changes no answer but "limit".
-use mathlib.Core.Path.{_≡_, refl, sym, ap, _∙_, subst}
+use mathlib.Core.Path.{_≡_, refl, sym, _∙_, subst}
 use Prim.Native.Nat.{ℕ, zero, suc, _+_, _≤_, _<_}
 use native.Mathlib.Omega.{arith}
 use mathlib.Core.Bool.{Bool, true, false, false≢true}
 use mathlib.Core.List.{List}
 use Rattle.settings.specs.declared.Settings.{Settings}
-use Rattle.constraint.specs.Constraint.{numVars}
 use Rattle.interval.specs.declared.Interval.{Interval}
 use Rattle.narrow.specs.declared.PropResult.{PropResult}
 use Rattle.narrow.specs.declared.PropResult.the-variants.{Changed, Stable, Conflict}
-use Rattle.nra.specs.Solver.{Problem, Stop, conflict, tolerance, limit, unsatisfied, Answer, assignment, failed, halvingsOf, reached, State, Progress, Stopped, Going, beginChecked, beginNarrowed, beginEmpty, beginIn, beginAt, begin, settleChecked, settle, settleIn, halve, atLimit, run, solve}
+use Rattle.nra.specs.Solver.{Problem, limit, Answer, halvingsOf, reached, State, Progress, Stopped, Going, beginChecked, beginNarrowed, beginEmpty, beginIn, beginAt, begin, settleChecked, settle, settleIn, halve, atLimit, run, solve}
 
 -- a run that has made h halvings, and has not stopped at the limit
 data Counted (h : ℕ) : Progress → Type 0 where

@@ -1,5 +1,5 @@
 -- Demand 3: an assignment passes document 01's check of the constraint, whatever the limit.
-use mathlib.Core.Path.{_≡_, refl, sym, subst}
+use mathlib.Core.Path.{_≡_, refl, subst}
 use Prim.Native.Nat.{ℕ, zero, suc}
 use mathlib.Core.Bool.{Bool, true, false}
 use mathlib.Core.List.{List, []}

@@ -6,29 +6,29 @@ use mathlib.Core.List.{List, [], _∷_, _++_}
 use native.Mathlib.Omega.{arith}
 use borrow.Author.Tests.{leb-true, leb-false}
 use lib.Dec.{leb, eqb}
-use lib.ListN.{length, take}
+use lib.ListN.{length, take, replicate, length-append}
 use lib.Seq.{take-append-seam}
 use lib.Ieee.{Float, binary64}
 use lib.Ieee.Bits.{ofBits-fits}
+use Rattle.number.specs.Notation.{whole}
 use Rattle.number.specs.Order.{passed}
 use Rattle.tree.specs.Bytes.{f64At}
 use Rattle.tree.specs.Refusal.{_or-else_}
 use Rattle.tree.specs.RefusalLaws.{both, none-both, none-unless}
 use Rattle.settings.specs.Settings.{usual}
 use Rattle.interval.specs.declared.Interval.{Interval}
-use Rattle.interval.specs.Interval.{_‥_}
-use Rattle.interval.specs.Inside.{isSound, Ends, Sound, Each}
+use Rattle.interval.specs.Inside.{Ends, Sound, Each}
 use Rattle.interval.specs.Boxes.{intervals, allSound, areBoxes}
 use Rattle.constraint.specs.Constraint.{Constraint}
 use Rattle.constraint.specs.Records.{constraintAt}
-use Rattle.file.specs.File.{nodesOf, constraintsOf, boundsOf, constraintCount, boundCount, boundAt, bounds, refusal, Read, Refused, Accepted, readBy, readFile, left, givenRefusal, readGiven}
+use Rattle.file.specs.File.{nodesOf, constraintsOf, boundsOf, constraintCount, boundCount, boundAt, bounds, refusal, Read, Refused, Accepted, readBy, readFile, givenRefusal, readGiven}
 use Rattle.file.specs.FileLaws.{bound-sound, read-is, given-is}
 use Rattle.point.specs.Check.{check}
 use Rattle.narrow.specs.Held.{constraint-held}
 use Rattle.narrow.specs.declared.PropResult.{PropResult}
 use Rattle.narrow.specs.declared.Propagated.{Propagated}
 use Rattle.narrow.specs.Given.{_leaving_and_, propagateGiven}
-use Rattle.narrow.specs.Promise.{AllHeld, Kept, given-keeps}
+use Rattle.narrow.specs.Promise.{AllHeld, boxes-sound, Kept, given-keeps}
 use Rattle.nra.specs.declared.Stop as Word
 use Rattle.nra.specs.declared.Solved.{Solved}
 use Rattle.nra.specs.Solver.{Problem, Stop, conflict, tolerance, limit, unsatisfied, Answer, assignment, failed, halvingsOf, reached, solve}
@@ -80,6 +80,17 @@ pointOf r = take (r .count) (r .point)
 point-is : (m : List Float) (exact : Bool) (h : ℕ) → pointOf (solvedOf (assignment m exact h)) ≡ m
 unfolding solvedOf padded
 point-is m exact h = take-append-seam m _
+
+-- A point has as many values as it is said to have: `count` is at most its 16 places.
+fits : (a : Answer) → solvedOf a .count ≤ length (solvedOf a .point)
+unfolding solvedOf padded
+fits (assignment m exact h) = rw (length-append m (replicate (16 - length m) (whole 0))) (omega arith)
+fits (failed w r h) = omega arith
+
+answered-fits : (x : Read) (later : ℕ) (answer : Constraint → List Interval → Answer) → answeredBy x later answer .count ≤ length (answeredBy x later answer .point)
+answered-fits (Refused r) later answer = omega arith
+answered-fits (Accepted c bounds) zero answer = fits (answer c bounds)
+answered-fits (Accepted c bounds) (suc n) answer = omega arith
 
 -- ---- the promises, of any two structs that are answers to one problem
 -- x is the answer under the limit L, and not "limit"; y is that under the limit M
@@ -164,14 +175,6 @@ all-bounds file e zero h = tt
 all-bounds file e (suc n) h = each-more Sound (bounds (boundsOf file) n) (boundAt (boundsOf file) n) (all-bounds file e n (omega arith)) (record { range = passed (bound-sound file e n h); ends = bound-ends (boundsOf file) n })
 
 -- and so are a caller's boxes
-boxes-sound : (lo hi : List Float) → AllHeld lo → AllHeld hi → allSound (intervals lo hi) ≡ true → Each Sound (intervals lo hi)
-unfolding intervals allSound
-boxes-sound [] hi p q e = tt
-boxes-sound (l ∷ lo) [] p q e = tt
-boxes-sound (l ∷ lo) (h ∷ hi) p q e =
-    let w = both (isSound (l ‥ h)) (allSound (intervals lo hi)) e in
-    (record { range = passed (w .0); ends = record { lo = p .0; hi = q .0 } }, boxes-sound lo hi (p .1) (q .1) (w .1))
-
 given-sound : (lo hi : List Float) → AllHeld lo → AllHeld hi → boxesRefusal lo hi ≡ 0 → Each Sound (intervals lo hi)
 unfolding boxesRefusal areBoxes
 given-sound lo hi p q e = boxes-sound lo hi p q (both (eqb (length lo) (length hi) && leb (length lo) 16) (allSound (intervals lo hi)) (none-unless 8 _ e) .1)
@@ -201,6 +204,10 @@ module _ (file : List ℕ) (ε : Float) where
     -- Nobody who receives an assignment can find it outside its starting box or failing the check.
     pub file-passes : solveFile file L ε .stop ≡ Word.Stop.Assignment → Passes (fileProblem file ε) (solveFile file L ε)
     file-passes e = passes (fileProblem file ε) L file-answer file-fair e
+
+  pub file-fits : (L : ℕ) → solveFile file L ε .count ≤ length (solveFile file L ε .point)
+  unfolding solveFile
+  file-fits L = answered-fits (readFile file) (limitRefusal L ε) _
 
   -- Two accepted limits of at least 1, of which the first does not give "limit".
   pub file-settled : (L M : ℕ) → solveFile file L ε .refusal ≡ 0 → solveFile file M ε .refusal ≡ 0 → 1 ≤ L → 1 ≤ M → (solveFile file L ε .stop ≡ Word.Stop.Limit → ⊥)
@@ -232,6 +239,10 @@ module _ (nodes b : List ℕ) (lo hi : List Float) (ε : Float) where
 
       pub given-passes : solveGiven nodes b lo hi L ε .stop ≡ Word.Stop.Assignment → Passes (givenProblem nodes b lo hi ε) (solveGiven nodes b lo hi L ε)
       given-passes e = passes (givenProblem nodes b lo hi ε) L given-answer given-fair e
+
+  pub given-fits : (L : ℕ) → solveGiven nodes b lo hi L ε .count ≤ length (solveGiven nodes b lo hi L ε .point)
+  unfolding solveGiven
+  given-fits L = answered-fits (readGiven nodes b) (limitRefusal L ε or-else boxesRefusal lo hi) _
 
   pub given-settled : (L M : ℕ) → solveGiven nodes b lo hi L ε .refusal ≡ 0 → solveGiven nodes b lo hi M ε .refusal ≡ 0 → 1 ≤ L → 1 ≤ M → (solveGiven nodes b lo hi L ε .stop ≡ Word.Stop.Limit → ⊥)
       → Settled L (solveGiven nodes b lo hi L ε) M (solveGiven nodes b lo hi M ε)

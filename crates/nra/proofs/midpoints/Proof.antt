@@ -3,9 +3,8 @@ use Prim.Native.Nat.{_≤_, _-_}
 use mathlib.Core.Path.{_≡_, refl, sym, ap, _∙_}
 use native.Mathlib.Omega.{arith}
 use borrow.Author.Needs.{needs}
-use lib.Ieee.{Float, lt}
-use lib.ListN.{length, take, drop, length-set}
-use Rattle.interval.specs.Interval.{width, midpoint}
+use lib.ListN.{length, take, length-set}
+use Rattle.interval.specs.Interval.{midpoint}
 use Rattle.interval.specs.Boxes.{intervals}
 use Rattle.interval.specs.BoxLaws.{intervals-length}
 use Rattle.interval.specs.declared.Interval.{Interval}

@@ -1,11 +1,11 @@
 -- `nra::widest` meets its contract. Assumes nothing.
-use Prim.Native.Nat.{_≤_, _-_}
-use mathlib.Core.Path.{_≡_, refl, sym, ap, _∙_}
+use Prim.Native.Nat.{_-_}
+use mathlib.Core.Path.{_≡_, sym, ap, _∙_}
 use native.Mathlib.Omega.{arith}
 use borrow.Author.Needs.{needs}
 use lib.Ieee.{Float, lt}
-use lib.ListN.{length, take, drop, length-set}
-use Rattle.interval.specs.Interval.{width, midpoint}
+use lib.ListN.{length, take, drop}
+use Rattle.interval.specs.Interval.{width}
 use Rattle.interval.specs.Boxes.{intervals}
 use Rattle.interval.specs.BoxLaws.{intervals-length}
 use Rattle.interval.specs.declared.Interval.{Interval}
