@@ -1,11 +1,12 @@
 //! The Rust that the proved port is compared with.
 //!
 //! `tree`, `canonical`, `eval`, `error` and `smt` are the taken functions of the source, with document 01's stand-ins in
-//! the places of the library calls (REPLACED.md lists them). `standins` are these stand-ins. `house` reads the house
-//! file, `generate` makes problems and damage, and `port` calls the static library of the proved code.
+//! the places of the library calls (REPLACED.md lists them). `standins` are these stand-ins. `counted`
+//! is `solve` with its stop word and count of halvings, `house` reads the house file, `generate` makes problems and damage, and `port` calls the static library of the proved code.
 
 pub mod canonical;
 pub mod compare;
+pub mod counted;
 pub mod error;
 pub mod eval;
 pub mod generate;

@@ -1,5 +1,6 @@
 //! The exported functions of the proved port, as safe calls.
 
+use crate::counted::{Answer, Stop};
 use crate::smt::interval::PropResult;
 
 mod raw {
@@ -111,6 +112,38 @@ mod raw {
             hi: *mut f64,
             hi_length: usize,
             answer: *mut u8,
+        ) -> u8;
+        pub fn eml_solve_file(
+            file: *const u8,
+            length: usize,
+            limit: usize,
+            tolerance: f64,
+            stop: *mut u8,
+            exact: *mut bool,
+            residual: *mut f64,
+            halvings: *mut usize,
+            count: *mut usize,
+            point: *mut f64,
+            room: usize,
+        ) -> u8;
+        pub fn eml_solve(
+            nodes: *const u8,
+            nodes_length: usize,
+            constraints: *const u8,
+            constraints_length: usize,
+            lo: *const f64,
+            lo_length: usize,
+            hi: *const f64,
+            hi_length: usize,
+            limit: usize,
+            tolerance: f64,
+            stop: *mut u8,
+            exact: *mut bool,
+            residual: *mut f64,
+            halvings: *mut usize,
+            count: *mut usize,
+            point: *mut f64,
+            room: usize,
         ) -> u8;
         pub fn eml_to_nnf(
             nodes: *const u8,
@@ -325,6 +358,116 @@ pub fn propagate(
         _ => PropResult::Conflict,
     };
     refused_unless_zero(number, result)
+}
+
+/// The places that the solver's calls write an answer to.
+struct Places {
+    stop: u8,
+    exact: bool,
+    residual: f64,
+    halvings: usize,
+    count: usize,
+    point: Vec<f64>,
+}
+
+impl Places {
+    /// With room for a point of `room` values, and in every place what no answer has.
+    fn untouched(room: usize) -> Self {
+        Self {
+            stop: 255,
+            exact: true,
+            residual: -1.0,
+            halvings: usize::MAX,
+            count: usize::MAX,
+            point: vec![f64::from_bits(UNTOUCHED); room],
+        }
+    }
+
+    fn answer(self, number: Refusal) -> Result<Answer, Refusal> {
+        let values = if number == 0 { self.count } else { 0 };
+        let after = &self.point[values..];
+        assert!(after.iter().all(|x| x.to_bits() == UNTOUCHED));
+        if number != 0 {
+            assert!(self.stop == 255 && self.exact && self.residual == -1.0);
+            assert!(self.halvings == usize::MAX && self.count == usize::MAX);
+            return Err(number);
+        }
+        let stops = [
+            Stop::Assignment,
+            Stop::Conflict,
+            Stop::Tolerance,
+            Stop::Limit,
+            Stop::Unsatisfied,
+        ];
+        Ok(Answer {
+            stop: stops[self.stop as usize],
+            point: self.point[..values].to_vec(),
+            exact: self.exact,
+            residual: self.residual,
+            halvings: self.halvings,
+        })
+    }
+}
+
+/// Solves a file. `room` is how many values of a point there are places for.
+pub fn solve_file(
+    file: &[u8],
+    limit: usize,
+    tolerance: f64,
+    room: usize,
+) -> Result<Answer, Refusal> {
+    let mut to = Places::untouched(room);
+    let number = unsafe {
+        raw::eml_solve_file(
+            file.as_ptr(),
+            file.len(),
+            limit,
+            tolerance,
+            &mut to.stop,
+            &mut to.exact,
+            &mut to.residual,
+            &mut to.halvings,
+            &mut to.count,
+            to.point.as_mut_ptr(),
+            room,
+        )
+    };
+    to.answer(number)
+}
+
+/// Solves records with bounds, given by their lower and upper ends.
+pub fn solve(
+    nodes: &[u8],
+    constraints: &[u8],
+    lo: &[f64],
+    hi: &[f64],
+    limit: usize,
+    tolerance: f64,
+    room: usize,
+) -> Result<Answer, Refusal> {
+    let mut to = Places::untouched(room);
+    let number = unsafe {
+        raw::eml_solve(
+            nodes.as_ptr(),
+            nodes.len(),
+            constraints.as_ptr(),
+            constraints.len(),
+            lo.as_ptr(),
+            lo.len(),
+            hi.as_ptr(),
+            hi.len(),
+            limit,
+            tolerance,
+            &mut to.stop,
+            &mut to.exact,
+            &mut to.residual,
+            &mut to.halvings,
+            &mut to.count,
+            to.point.as_mut_ptr(),
+            room,
+        )
+    };
+    to.answer(number)
 }
 
 /// Writes the records of the normal form; their number.

@@ -7,3 +7,4 @@ mod narrowing;
 mod normal_form;
 mod points;
 mod reading;
+mod solving;

@@ -1,0 +1,24 @@
+-- `eml_solve_file` meets its contract: the solver's answer in the lent places. Assumes nothing.
+use mathlib.Core.Path.{sym}
+use Rattle.nra.specs.Received.{file-fits}
+use borrow.Author.Needs.{needs}
+use Rattle.eml.proofs.solving.eml_solve_file.Statement.{statement}
+use Rattle.eml.proofs.solving.eml_solve_file.Tie as tie
+
+solve-file-requires : tie.Need-solve-file-requires
+solve-file-requires c κs = search needs
+
+give-requires : tie.Need-give-requires
+give-requires c κs =
+    let s = c .before .before .before .before .before .before .before .before .before in
+    rw (c .before .before .before .before .before .before .solve-file .ensures) (file-fits (s .args .file .now) (s .args .tolerance) (s .args .limit))
+
+same-length : tie.Need-same-length
+same-length c = search needs
+
+returns : tie.Need-returns
+returns c =
+    rw (sym (c .before .before .before .before .before .before .before .before .before .solve-file .ensures)) (c .before .before .give .ensures)
+
+pub eml-solve-file-spec : {M : Type 1} → statement M
+eml-solve-file-spec = tie.close (tie.spec solve-file-requires give-requires same-length returns)

@@ -1,0 +1,136 @@
+//! `solve` against the Rust's: stop word, assignment, exactness, residual and count, bit by bit, on a file and on records.
+
+use reference::compare::{Tally, hex, say};
+use reference::counted::{self, Answer};
+use reference::generate::{self, Shape, Temper};
+use reference::house;
+use reference::port;
+use reference::splitmix::SplitMix64;
+
+const LIMITS: [usize; 5] = [0, 1, 2, 5, 40];
+const TOLERANCES: [f64; 7] = [1e-8, 1e-8, 1e-8, 0.0, -1.0, 0.1, f64::INFINITY];
+
+fn shape(rng: &mut SplitMix64) -> Shape {
+    if rng.one_in(2) {
+        Shape::narrowing(rng)
+    } else {
+        Shape::small(rng)
+    }
+}
+
+/// Every field, an f64 by its bits.
+fn fields(answer: &Answer) -> (counted::Stop, String, bool, u64, usize) {
+    let residual = answer.residual.to_bits();
+    (
+        answer.stop,
+        hex(&answer.point),
+        answer.exact,
+        residual,
+        answer.halvings,
+    )
+}
+
+fn ends(boxes: &[(f64, f64)]) -> (Vec<f64>, Vec<f64>) {
+    boxes.iter().copied().unzip()
+}
+
+#[test]
+fn problems() {
+    let mut rng = SplitMix64::new(71);
+    let mut stops = [0_u64; 5];
+    let (mut halved, mut most) = (0_u64, 0);
+    for _ in 0..100_000 {
+        let shape = shape(&mut rng);
+        let parts = generate::problem(&mut rng, &shape);
+        let bodies = parts.to_bodies();
+        let file = bodies.to_file();
+        let problem = house::read_file(&file).expect("sound");
+        // The highest limit is for few: a run to it is long.
+        let limit = if rng.one_in(200) {
+            10_000
+        } else {
+            rng.pick(&LIMITS)
+        };
+        let tolerance = rng.pick(&TOLERANCES);
+        let theirs = counted::solve(&problem.constraint, &problem.bounds, limit, tolerance);
+        let of_file = port::solve_file(&file, limit, tolerance, 16).expect("accepted");
+        let (lo, hi) = ends(&problem.bounds);
+        let (nodes, constraints) = (&bodies.nodes, &bodies.constraints);
+        let of_records = port::solve(nodes, constraints, &lo, &hi, limit, tolerance, 16);
+        for ours in [of_file, of_records.expect("accepted")] {
+            assert_eq!(
+                fields(&ours),
+                fields(&theirs),
+                "{parts:?} {limit} {tolerance}"
+            );
+        }
+        stops[theirs.stop as usize] += 1;
+        halved += u64::from(theirs.halvings > 0);
+        most = most.max(theirs.halvings);
+    }
+    say(&format!(
+        "solve: 100000 problems compared, of a file and of records, all equal; assignment, conflict, tolerance, limit, unsatisfied {stops:?}; {halved} halved, at most {most} times"
+    ));
+    assert!(stops.iter().all(|&n| n >= 1_000) && halved >= 5_000 && most == 10_000);
+}
+
+#[test]
+fn refusals_of_files() {
+    let mut rng = SplitMix64::new(72);
+    let mut tally = Tally::new("refusals of solve on a file");
+    for _ in 0..160_000 {
+        let file = generate::any_file(&mut rng);
+        let limit = rng.pick(&[0, 0, 1, 1_000_000, 1_000_001, usize::MAX]);
+        let tolerance = rng.pick(&[f64::INFINITY, f64::INFINITY, f64::NAN]);
+        let room = rng.pick(&[0, 1, 16]);
+        let number = match house::read_file(&file) {
+            Err(number) => number,
+            Ok(_) if limit > 1_000_000 || tolerance.is_nan() => 8,
+            Ok(problem) => {
+                let theirs = counted::solve(&problem.constraint, &problem.bounds, limit, tolerance);
+                if theirs.point.len() > room { 10 } else { 0 }
+            }
+        };
+        let ours = port::solve_file(&file, limit, tolerance, room);
+        assert_eq!(ours.err().unwrap_or(0), number);
+        tally.add(number);
+    }
+    tally.done(&[0, 1, 2, 3, 4, 5, 6, 7, 8, 10], 500);
+}
+
+#[test]
+fn refusals_of_records() {
+    let mut rng = SplitMix64::new(73);
+    let mut tally = Tally::new("refusals of solve on records");
+    for _ in 0..50_000 {
+        let (nodes, constraints) = generate::any_records(&mut rng);
+        let count = if rng.one_in(6) {
+            15 + rng.below(4)
+        } else {
+            rng.below(4)
+        };
+        let mut boxes: Vec<(f64, f64)> = (0..count)
+            .map(|_| generate::range(&mut rng, Temper::Wild))
+            .collect();
+        if rng.one_in(4) && count > 0 {
+            let at = rng.below(count);
+            boxes[at] = generate::unsound_range(&mut rng);
+        }
+        let (lo, mut hi) = ends(&boxes);
+        if rng.one_in(20) {
+            hi.push(1.0);
+        }
+        let limit = rng.pick(&[0, 1, 1, 1_000_001]);
+        let sound = boxes.iter().all(|&(a, b)| house::is_sound(a, b));
+        let number = match house::read_records(&nodes, &constraints) {
+            Err(number) => number,
+            Ok(_) if limit > 1_000_000 => 8,
+            Ok(_) if count > 16 || !sound || hi.len() != count => 9,
+            Ok(_) => 0,
+        };
+        let ours = port::solve(&nodes, &constraints, &lo, &hi, limit, 1e-8, 16);
+        assert_eq!(ours.err().unwrap_or(0), number);
+        tally.add(number);
+    }
+    tally.done(&[0, 2, 3, 4, 5, 6, 7, 8, 9], 200);
+}
