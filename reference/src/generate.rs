@@ -141,7 +141,7 @@ pub fn largest() -> Parts {
     while nodes.len() < MAX_NODES {
         nodes.push(Node::Eml(10, 10));
     }
-    // One path of 16 levels with 4 quantifiers, then atoms up to the count, under one Or.
+    // One path of 16 levels with 4 quantifiers, one of Or, which is the deepest in narrowing, then atoms up to the count, under one Or.
     let mut constraints = vec![Record::new(kind::GT_ZERO, 139)];
     for variable in 0..MAX_QUANTIFIERS {
         let record = Record::quantifier(kind::FOR_ALL, variable, -1.0, 2.0);
@@ -151,10 +151,12 @@ pub fn largest() -> Parts {
         Record::new(kind::NOT, 0);
         MAX_LEVELS - 2 - MAX_QUANTIFIERS
     ]);
-    let path = constraints.len();
-    let atoms = MAX_CONSTRAINTS - 1 - path;
+    constraints.push(Record::new(kind::GT_ZERO, 139));
+    constraints.extend(vec![Record::new(kind::OR, 1); MAX_LEVELS - 2]);
+    let paths = constraints.len();
+    let atoms = MAX_CONSTRAINTS - 1 - paths;
     constraints.extend((0..atoms).map(|k| Record::new((k % 6) as u8, MAX_NODES - 1 - k)));
-    constraints.push(Record::new(kind::OR, atoms + 1));
+    constraints.push(Record::new(kind::OR, atoms + 2));
     Parts {
         nodes,
         constraints,

@@ -1,8 +1,9 @@
 //! The Rust that the proved port is compared with.
 //!
 //! `tree`, `canonical`, `eval`, `error` and `smt` are the taken functions of the source, with document 01's stand-ins in
-//! the places of the library calls (REPLACED.md lists them). `standins` are these stand-ins. `counted`
-//! is `solve` with its stop word and count of halvings, `house` reads the house file, `generate` makes problems and damage, and `port` calls the static library of the proved code.
+//! the places of the library calls (REPLACED.md lists them). `standins` are these stand-ins. `counted` is `solve` with its
+//! stop word and count of halvings. `house` reads the house file, `generate` makes problems and damage, `replay` makes the
+//! cases of the program `table`, and `port` calls the static library of the proved code.
 
 pub mod canonical;
 pub mod compare;
@@ -12,6 +13,7 @@ pub mod eval;
 pub mod generate;
 pub mod house;
 pub mod port;
+pub mod replay;
 pub mod smt;
 pub mod splitmix;
 pub mod standins;

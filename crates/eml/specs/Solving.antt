@@ -6,16 +6,8 @@ use lib.Dec.{leb}
 use lib.ListN.{length}
 use lib.Seq.{paste}
 use lib.Ieee.{Float}
-use Rattle.nra.specs.declared.Stop.{Stop}
 use Rattle.nra.specs.declared.Solved.{Solved}
-
--- document 01's stop words in their order
-abbrev pub stopNumber : Stop → ℕ
-stopNumber Stop.Assignment = 0
-stopNumber Stop.Conflict = 1
-stopNumber Stop.Tolerance = 2
-stopNumber Stop.Limit = 3
-stopNumber Stop.Unsatisfied = 4
+use Rattle.nra.specs.Answers.{stopNumber}
 
 pub record Places : Type 0 where
   pub stop : ℕ

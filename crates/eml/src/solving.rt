@@ -1,24 +1,11 @@
 // Solving, of a file and of records with bounds.
 use nra::Solved;
-use nra::Stop;
 ghost use mathlib.Core.Path.{_≡_};
 ghost use Prim.Native.Nat.{_≤_};
 ghost use lib.ListN.{length};
 ghost use lib.Seq.{paste};
 ghost use Rattle.nra.specs.Calls.{solveFile, solveGiven};
-ghost use Rattle.eml.specs.Solving.{stopNumber, places, _leaving_, giving};
-
-fn stop_number(stop: Stop) -> u8
-    ensures { λ r. ⌜ r ≡ stopNumber stop ⌝ }
-{
-    match stop {
-        Stop::Assignment => 0,
-        Stop::Conflict => 1,
-        Stop::Tolerance => 2,
-        Stop::Limit => 3,
-        Stop::Unsatisfied => 4,
-    }
-}
+ghost use Rattle.eml.specs.Solving.{places, _leaving_, giving};
 
 // Writes the values of a point to the first places.
 fn write_point(values: [f64; 16], count: usize, point: &mut [f64])
@@ -53,7 +40,7 @@ fn give(
     }
     let word = s.stop;
     let values = s.point;
-    *stop = stop_number(word);
+    *stop = nra::stop_number(word);
     *exact = s.exact;
     *residual = s.residual;
     *halvings = s.halvings;

@@ -39,6 +39,14 @@ wordOf tolerance = Word.Stop.Tolerance
 wordOf limit = Word.Stop.Limit
 wordOf unsatisfied = Word.Stop.Unsatisfied
 
+-- where a word goes out as a number: document 01's order
+abbrev pub stopNumber : Word.Stop → ℕ
+stopNumber Word.Stop.Assignment = 0
+stopNumber Word.Stop.Conflict = 1
+stopNumber Word.Stop.Tolerance = 2
+stopNumber Word.Stop.Limit = 3
+stopNumber Word.Stop.Unsatisfied = 4
+
 -- a point has 16 places; those past its values are 0
 unfoldable pub padded : List Float → List Float
 padded m = m ++ replicate (16 - length m) (whole 0)

@@ -20,7 +20,7 @@ ghost use Rattle.interval.specs.Interval.{midpoint};
 ghost use Rattle.interval.specs.Boxes.{intervals, boxesOf};
 ghost use Rattle.interval.specs.declared.Interval.{Interval as Box};
 ghost use Rattle.nra.specs.Working.{Working};
-ghost use Rattle.nra.specs.Answers.{problem, progressOf, goes, pointless as pointlessOf, refusedWith, solvedOf, tried};
+ghost use Rattle.nra.specs.Answers.{problem, progressOf, goes, pointless as pointlessOf, refusedWith, solvedOf, stopNumber, tried};
 ghost use Rattle.settings.specs.Settings.{usual};
 ghost use Rattle.file.specs.File.{nodesOf, constraintsOf, boundsOf, constraintCount, boundCount, bounds, refusal, readFile};
 ghost use Rattle.file.specs.Code.{Laid};
@@ -558,6 +558,18 @@ pub enum Stop {
     Tolerance,
     Limit,
     Unsatisfied,
+}
+
+pub fn stop_number(stop: Stop) -> u8
+    ensures { λ r. ⌜ r ≡ stopNumber stop ⌝ }
+{
+    match stop {
+        Stop::Assignment => 0,
+        Stop::Conflict => 1,
+        Stop::Tolerance => 2,
+        Stop::Limit => 3,
+        Stop::Unsatisfied => 4,
+    }
 }
 
 // The number of a refusal, or 0; the stop word; of an assignment its exactness and its point, `count` values; of any other answer its residual; the

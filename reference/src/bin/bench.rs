@@ -9,6 +9,7 @@ use reference::house::{self, Bodies, Problem};
 use reference::port;
 use reference::smt::helpers::evaluate_constraint_residual;
 use reference::smt::interval::{Interval, IntervalDomain};
+use reference::smt::nra::EmlNraSolver;
 use reference::splitmix::SplitMix64;
 use reference::standins::{self, Complex64};
 use std::hint::black_box;
@@ -179,6 +180,22 @@ fn propagate(problem: &Problem, bounds: &[(f64, f64)]) {
     black_box(domain.propagate(&problem.constraint));
 }
 
+/// So that a few long runs do not outweigh the others.
+const LIMIT: usize = 100;
+
+fn solve(problem: &Problem, bounds: &[(f64, f64)]) {
+    let solver = EmlNraSolver {
+        max_iterations: LIMIT,
+        ..EmlNraSolver::new(bounds.to_vec())
+    };
+    black_box(solver.solve(&problem.constraint).is_ok());
+}
+
+/// The lower and the upper ends of a problem's bounds.
+fn ends(problem: &Problem) -> (Vec<f64>, Vec<f64>) {
+    problem.bounds.iter().copied().unzip()
+}
+
 /// Two lines: the Rust reads the records in each call, as the port does, and the Rust has built its trees before.
 fn both_ways(
     name: &str,
@@ -206,7 +223,7 @@ fn both_ways(
     line(&format!("{name}, built"), cases.len(), built, &mut port);
 }
 
-/// Values, residuals and narrowed boxes of problems like the house's, and of larger ones.
+/// Values, residuals, narrowed boxes and answers of problems like the house's, and of larger ones.
 fn solving() {
     let mut rng = SplitMix64::new(3);
     let mut many = |shape: fn(&mut SplitMix64) -> Shape| -> Vec<Case> {
@@ -246,10 +263,19 @@ fn solving() {
             &cases,
             |problem, c| propagate(problem, &c.problem.bounds),
             |c| {
-                let bounds = c.problem.bounds.iter().copied();
-                let (mut lo, mut hi): (Vec<f64>, Vec<f64>) = bounds.unzip();
+                let (mut lo, mut hi) = ends(&c.problem);
                 let (nodes, constraints) = (&c.bodies.nodes, &c.bodies.constraints);
                 black_box(port::propagate(nodes, constraints, &mut lo, &mut hi).is_ok());
+            },
+        );
+        both_ways(
+            &format!("solve, {size}"),
+            &cases,
+            |problem, c| solve(problem, &c.problem.bounds),
+            |c| {
+                let (lo, hi) = ends(&c.problem);
+                let (nodes, constraints) = (&c.bodies.nodes, &c.bodies.constraints);
+                black_box(port::solve(nodes, constraints, &lo, &hi, LIMIT, 1e-8, 16).is_ok());
             },
         );
     }
