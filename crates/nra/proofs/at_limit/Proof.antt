@@ -29,7 +29,12 @@ same-length-2 : tie.Need-same-length-2
 same-length-2 c = search needs
 
 returns-2 : tie.Need-returns-2
-returns-2 c = λ bounds ε h. ends-there _ _ bounds ε _ _ h (sym (c .before .before .before .before .before .before .before .before .before .before .is-going .ensures) ∙ not-false _ (c .before .before .before .before .before .before .before .before .before .if1 .left)) (c .before .before .before .before .before .before .before .midpoints .ensures) (c .before .before .distance .ensures)
+returns-2 c =
+    let is-going = c .before .before .before .before .before .before .before .before .before .before .is-going in
+    let if1 = c .before .before .before .before .before .before .before .before .before .if1 in
+    let midpoints = c .before .before .before .before .before .before .before .midpoints in
+    let distance = c .before .before .distance in
+    λ bounds ε h. ends-there _ _ bounds ε _ _ h (sym (is-going .ensures) ∙ not-false _ (if1 .left)) (midpoints .ensures) (distance .ensures)
 
 pub at-limit-spec : {M : Type 1} → statement M
 at-limit-spec =

@@ -17,7 +17,8 @@ enum-told-2 c = search needs
 begin-checked-requires : tie.Need-begin-checked-requires
 begin-checked-requires c κs =
     let s = c .before .before .before .before .before .before .before .before .before .before .before .before .before .before .before .before .before .before .before in
-    (s .pre .0, working-after (s .pre .1) (c .before .before .before .before .before .before .before .before .before .before .propagate .kept .1 .1 .1 .1 .1 .0) (c .before .before .before .before .before .before .before .before .before .before .propagate .kept .1 .1 .1 .1 .1 .1 .0) refl refl)
+    let propagate = c .before .before .before .before .before .before .before .before .before .before .propagate in
+    (s .pre .0, working-after (s .pre .1) (propagate .kept .1 .1 .1 .1 .1 .0) (propagate .kept .1 .1 .1 .1 .1 .1 .0) refl refl)
 
 enum-told-3 : tie.Need-enum-told-3
 enum-told-3 c = search needs
@@ -25,7 +26,8 @@ enum-told-3 c = search needs
 begin-checked-requires-2 : tie.Need-begin-checked-requires-2
 begin-checked-requires-2 c κs =
     let s = c .before .before .before .before .before .before .before .before .before .before .before .before .before .before .before .before .before .before .before in
-    (s .pre .0, working-after (s .pre .1) (c .before .before .before .before .before .before .before .before .before .before .propagate .kept .1 .1 .1 .1 .1 .0) (c .before .before .before .before .before .before .before .before .before .before .propagate .kept .1 .1 .1 .1 .1 .1 .0) refl refl)
+    let propagate = c .before .before .before .before .before .before .before .before .before .before .propagate in
+    (s .pre .0, working-after (s .pre .1) (propagate .kept .1 .1 .1 .1 .1 .0) (propagate .kept .1 .1 .1 .1 .1 .1 .0) refl refl)
 
 same-length : tie.Need-same-length
 same-length c = search needs
@@ -49,7 +51,11 @@ same-length-6 : tie.Need-same-length-6
 same-length-6 c = search needs
 
 returns-2 : tie.Need-returns-2
-returns-2 c = λ bounds. begin-changed _ _ _ _ _ (c .before .before .before .before .before .before .before .before .before .before .before .before .before .before .before .propagate .ensures) bounds _ (c .before .before .before .before .before .before .before .before .before .enum-told2 .given .1) (c .before .before .before .before .begin-checked .ensures bounds)
+returns-2 c =
+    let propagate = c .before .before .before .before .before .before .before .before .before .before .before .before .before .before .before .propagate in
+    let enum-told2 = c .before .before .before .before .before .before .before .before .before .enum-told2 in
+    let begin-checked = c .before .before .before .before .begin-checked in
+    λ bounds. begin-changed _ _ _ _ _ (propagate .ensures) bounds _ (enum-told2 .given .1) (begin-checked .ensures bounds)
 
 same-length-7 : tie.Need-same-length-7
 same-length-7 c = search needs
@@ -64,7 +70,11 @@ same-length-10 : tie.Need-same-length-10
 same-length-10 c = search needs
 
 returns-3 : tie.Need-returns-3
-returns-3 c = λ bounds. begin-stable _ _ _ _ _ (c .before .before .before .before .before .before .before .before .before .before .before .before .before .before .before .propagate .ensures) bounds _ (c .before .before .before .before .before .before .before .before .before .enum-told3 .given .1) (c .before .before .before .before .begin-checked2 .ensures bounds)
+returns-3 c =
+    let propagate = c .before .before .before .before .before .before .before .before .before .before .before .before .before .before .before .propagate in
+    let enum-told3 = c .before .before .before .before .before .before .before .before .before .enum-told3 in
+    let begin-checked2 = c .before .before .before .before .begin-checked2 in
+    λ bounds. begin-stable _ _ _ _ _ (propagate .ensures) bounds _ (enum-told3 .given .1) (begin-checked2 .ensures bounds)
 
 pub begin-spec : {M : Type 1} → statement M
 begin-spec =

@@ -16,10 +16,17 @@ split-requires : tie.Need-split-requires
 split-requires c κs = search needs
 
 residual-in-requires : tie.Need-residual-in-requires
-residual-in-requires c κs = (c .before .before .before .before .before .before .before .before .before .before .before .before .before .before .before .before .pre .0, (lent _ _ _ (omega (arith, c .before .before .before .before .before .before .before .before .before .before .before .before .before .before .before .before .pre .1 .0 .few, c .before .before .before .before .before .before .before .before .before .before .before .before .before .before .before .before .pre .1 .0 .pointed, c .before .before .before .before .before .before .before .before .midpoints .kept .1 .1 .0)) (c .before .before .before .before .before .before .before .before .before .before .before .before .before .before .before .before .pre .1 .0 .long), omega (arith, c .before .before .before .before .before .before .before .before .before .before .before .before .before .before .before .before .pre .1 .1, c .before .before .before .before .before .before .before .before .before .before .before .before .before .before .before .before .pre .1 .0 .pointed, c .before .before .before .before .before .before .before .before .midpoints .kept .1 .1 .0)))
+residual-in-requires c κs =
+    let s = c .before .before .before .before .before .before .before .before .before .before .before .before .before .before .before .before in
+    let midpoints = c .before .before .before .before .before .before .before .before .midpoints in
+    (s .pre .0, (lent _ _ _ (omega (arith, s .pre .1 .0 .few, s .pre .1 .0 .pointed, midpoints .kept .1 .1 .0)) (s .pre .1 .0 .long), omega (arith, s .pre .1 .1, s .pre .1 .0 .pointed, midpoints .kept .1 .1 .0)))
 
 residual-in-requires-2 : tie.Need-residual-in-requires-2
-residual-in-requires-2 c κs = (c .before .before .before .before .before .before .before .before .before .before .before .before .before .before .before .before .before .before .before .before .before .before .before .pre .0, (lent _ _ _ (omega (arith, c .before .before .before .before .before .before .before .before .before .before .before .before .before .before .before .before .before .before .before .before .before .before .before .pre .1 .0 .few, c .before .before .before .before .before .before .before .before .before .before .before .before .before .before .before .before .before .before .before .before .before .before .before .pre .1 .0 .pointed, c .before .before .before .before .before .before .before .before .before .before .before .before .before .before .before .midpoints .kept .1 .1 .0, c .before .before .before .before .before .before .residual-in .kept .1 .1 .1 .1 .1 .0)) (omega (arith, c .before .before .before .before .before .before .before .before .before .before .before .before .before .before .before .before .before .before .before .before .before .before .before .pre .1 .0 .long, c .before .before .before .before .before .before .residual-in .kept .1 .1 .1 .1 .1 .1 .1 .1 .0)), omega (arith, c .before .before .before .before .before .before .before .before .before .before .before .before .before .before .before .before .before .before .before .before .before .before .before .pre .1 .1, c .before .before .before .before .before .before .before .before .before .before .before .before .before .before .before .before .before .before .before .before .before .before .before .pre .1 .0 .pointed, c .before .before .before .before .before .before .before .before .before .before .before .before .before .before .before .midpoints .kept .1 .1 .0, c .before .before .before .before .before .before .residual-in .kept .1 .1 .1 .1 .1 .0)))
+residual-in-requires-2 c κs =
+    let s = c .before .before .before .before .before .before .before .before .before .before .before .before .before .before .before .before .before .before .before .before .before .before .before in
+    let midpoints = c .before .before .before .before .before .before .before .before .before .before .before .before .before .before .before .midpoints in
+    let residual-in = c .before .before .before .before .before .before .residual-in in
+    (s .pre .0, (lent _ _ _ (omega (arith, s .pre .1 .0 .few, s .pre .1 .0 .pointed, midpoints .kept .1 .1 .0, residual-in .kept .1 .1 .1 .1 .1 .0)) (omega (arith, s .pre .1 .0 .long, residual-in .kept .1 .1 .1 .1 .1 .1 .1 .1 .0)), omega (arith, s .pre .1 .1, s .pre .1 .0 .pointed, midpoints .kept .1 .1 .0, residual-in .kept .1 .1 .1 .1 .1 .0)))
 
 same-length : tie.Need-same-length
 same-length c = search needs
@@ -28,7 +35,14 @@ same-length-2 : tie.Need-same-length-2
 same-length-2 c = search needs
 
 returns : tie.Need-returns
-returns c = better-lower _ _ _ _ (c .before .before .before .before .before .before .before .before .before .before .before .before .before .before .before .before .before .before .before .before .before .midpoints .ensures) (c .before .before .before .before .before .before .before .before .before .before .before .before .before .before .before .before .before .before .box-at .ensures) (c .before .before .before .before .before .before .before .before .before .before .before .before .before .before .before .before .before .split .ensures) (c .before .before .before .before .before .before .before .before .before .before .before .before .residual-in .ensures .1) (c .before .before .before .before .before .before .before .before .before .before .before .before .residual-in .ensures .0) (c .before .before .before .before .before .residual-in2 .ensures .0) (c .if1 .taken)
+returns c =
+    let midpoints = c .before .before .before .before .before .before .before .before .before .before .before .before .before .before .before .before .before .before .before .before .before .midpoints in
+    let box-at = c .before .before .before .before .before .before .before .before .before .before .before .before .before .before .before .before .before .before .box-at in
+    let split = c .before .before .before .before .before .before .before .before .before .before .before .before .before .before .before .before .before .split in
+    let residual-in = c .before .before .before .before .before .before .before .before .before .before .before .before .residual-in in
+    let residual-in2 = c .before .before .before .before .before .residual-in2 in
+    let if1 = c .if1 in
+    better-lower _ _ _ _ (midpoints .ensures) (box-at .ensures) (split .ensures) (residual-in .ensures .1) (residual-in .ensures .0) (residual-in2 .ensures .0) (if1 .taken)
 
 same-length-3 : tie.Need-same-length-3
 same-length-3 c = search needs
@@ -37,7 +51,14 @@ same-length-4 : tie.Need-same-length-4
 same-length-4 c = search needs
 
 returns-2 : tie.Need-returns-2
-returns-2 c = better-upper _ _ _ _ (c .before .before .before .before .before .before .before .before .before .before .before .before .before .before .before .before .before .before .before .before .before .midpoints .ensures) (c .before .before .before .before .before .before .before .before .before .before .before .before .before .before .before .before .before .before .box-at .ensures) (c .before .before .before .before .before .before .before .before .before .before .before .before .before .before .before .before .before .split .ensures) (c .before .before .before .before .before .before .before .before .before .before .before .before .residual-in .ensures .1) (c .before .before .before .before .before .before .before .before .before .before .before .before .residual-in .ensures .0) (c .before .before .before .before .before .residual-in2 .ensures .0) (c .if1 .left)
+returns-2 c =
+    let midpoints = c .before .before .before .before .before .before .before .before .before .before .before .before .before .before .before .before .before .before .before .before .before .midpoints in
+    let box-at = c .before .before .before .before .before .before .before .before .before .before .before .before .before .before .before .before .before .before .box-at in
+    let split = c .before .before .before .before .before .before .before .before .before .before .before .before .before .before .before .before .before .split in
+    let residual-in = c .before .before .before .before .before .before .before .before .before .before .before .before .residual-in in
+    let residual-in2 = c .before .before .before .before .before .residual-in2 in
+    let if1 = c .if1 in
+    better-upper _ _ _ _ (midpoints .ensures) (box-at .ensures) (split .ensures) (residual-in .ensures .1) (residual-in .ensures .0) (residual-in2 .ensures .0) (if1 .left)
 
 pub better-spec : {M : Type 1} → statement M
 better-spec =

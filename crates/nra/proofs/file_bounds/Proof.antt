@@ -68,13 +68,21 @@ loop-again : tie.Need-loop-again Inv-loop μ-loop
 unfolding boxesOf
 loop-again c =
     let s = c .before .before .before .before .before .before in
-    let p = c .before .before .loop .inv in (omega arith, p .1, length-set (c .before .before .loop .out .lo) _ _ ∙ p .2, length-set (c .before .before .loop .out .hi) _ _ ∙ p .3, bounds-next (c .before .before .loop .out .count) (c .before .before .loop .i) _ _ (p .2) (p .3) (omega (arith, p .1, c .before .before .before .before .bound-count .ensures, s .pre .few-bounds)) _ _ (omega (arith, p .1, c .before .loop-test .taken)) (p .4) (c .bound-in .ensures))
+    let bound-count = c .before .before .before .before .bound-count in
+    let loop = c .before .before .loop in
+    let loop-test = c .before .loop-test in
+    let bound-in = c .bound-in in
+    let p = loop .inv in (omega arith, p .1, length-set (loop .out .lo) _ _ ∙ p .2, length-set (loop .out .hi) _ _ ∙ p .3, bounds-next (loop .out .count) (loop .i) _ _ (p .2) (p .3) (omega (arith, p .1, bound-count .ensures, s .pre .few-bounds)) _ _ (omega (arith, p .1, loop-test .taken)) (p .4) (bound-in .ensures))
 
 returns : tie.Need-returns Inv-loop μ-loop
 unfolding boxesOf
 returns c =
     let s = c .before .before .before .before .before in
-    let p = c .before .loop .inv in (p .1 ∙ c .before .before .before .bound-count .ensures, rw (← c .before .before .bounds-of .ensures, ← c .before .before .before .bound-count .ensures) (bounds-done (c .before .loop .out .count) _ _ _ (p .2) (p .3) (omega (arith, p .1, c .before .before .before .bound-count .ensures, s .pre .few-bounds)) _ _ (p .1) (p .0) (c .loop-test .left) (p .4)))
+    let bound-count = c .before .before .before .bound-count in
+    let bounds-of = c .before .before .bounds-of in
+    let loop = c .before .loop in
+    let loop-test = c .loop-test in
+    let p = loop .inv in (p .1 ∙ bound-count .ensures, rw (← bounds-of .ensures, ← bound-count .ensures) (bounds-done (loop .out .count) _ _ _ (p .2) (p .3) (omega (arith, p .1, bound-count .ensures, s .pre .few-bounds)) _ _ (p .1) (p .0) (loop-test .left) (p .4)))
 
 pub file-bounds-spec : {M : Type 1} → statement M
 file-bounds-spec =

@@ -10,7 +10,8 @@ halve-widest-requires c κs = search needs
 settle-requires : tie.Need-settle-requires
 settle-requires c κs =
     let s = c .before .before .before .before .before .before .before .before .before .before .before .before .before .before .before .before .before .before .before .before .before .before .before in
-    (s .pre .0, working-after (s .pre .1) (c .before .before .before .before .before .before .before .before .before .before .before .before .halve-widest .kept .1 .1 .1 .1 .1 .0) (c .before .before .before .before .before .before .before .before .before .before .before .before .halve-widest .kept .1 .1 .1 .1 .1 .1 .0) (c .before .before .before .before .before .before .before .before .before .before .before .before .halve-widest .kept .1 .1 .1 .1 .1 .1 .1 .0) (c .before .before .before .before .before .before .before .before .before .before .before .before .halve-widest .kept .1 .1 .1 .1 .1 .1 .1 .1 .0))
+    let halve-widest = c .before .before .before .before .before .before .before .before .before .before .before .before .halve-widest in
+    (s .pre .0, working-after (s .pre .1) (halve-widest .kept .1 .1 .1 .1 .1 .0) (halve-widest .kept .1 .1 .1 .1 .1 .1 .0) (halve-widest .kept .1 .1 .1 .1 .1 .1 .1 .0) (halve-widest .kept .1 .1 .1 .1 .1 .1 .1 .1 .0))
 
 same-length : tie.Need-same-length
 same-length c = search needs
@@ -25,7 +26,10 @@ same-length-4 : tie.Need-same-length-4
 same-length-4 c = search needs
 
 returns : tie.Need-returns
-returns c = λ bounds h. halved-settles _ _ bounds _ _ _ _ _ h (c .before .before .before .before .before .before .before .before .before .before .before .before .before .before .before .before .before .before .before .before .before .halve-widest .ensures) (c .before .before .before .before .before .before .before .before .settle .ensures bounds)
+returns c =
+    let halve-widest = c .before .before .before .before .before .before .before .before .before .before .before .before .before .before .before .before .before .before .before .before .before .halve-widest in
+    let settle = c .before .before .before .before .before .before .before .before .settle in
+    λ bounds h. halved-settles _ _ bounds _ _ _ _ _ h (halve-widest .ensures) (settle .ensures bounds)
 
 pub halve-spec : {M : Type 1} → statement M
 halve-spec =

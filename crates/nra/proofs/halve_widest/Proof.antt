@@ -9,19 +9,34 @@ widest-requires : tie.Need-widest-requires
 widest-requires c κs = search needs
 
 better-requires : tie.Need-better-requires
-better-requires c κs = (c .before .before .before .before .before .before .before .before .before .before .before .before .before .pre .0, (c .before .before .before .before .before .before .before .before .before .before .before .before .before .pre .1, widest-at _ _ _ (c .before .before .before .before .before .before .before .before .before .before .before .before .before .pre .1 .paired) (c .before .before .before .before .before .before .before .before .before .before .before .before .before .pre .1 .some) (c .before .before .before .before .widest .ensures)))
+better-requires c κs =
+    let s = c .before .before .before .before .before .before .before .before .before .before .before .before .before in
+    let widest = c .before .before .before .before .widest in
+    (s .pre .0, (s .pre .1, widest-at _ _ _ (s .pre .1 .paired) (s .pre .1 .some) (widest .ensures)))
 
 mul-lo : tie.Need-mul-lo
-mul-lo c = omega (arith, widest-at _ _ _ (c .before .before .before .before .before .before .before .before .before .before .before .before .before .before .before .before .before .before .pre .1 .paired) (c .before .before .before .before .before .before .before .before .before .before .before .before .before .before .before .before .before .before .pre .1 .some) (c .before .before .before .before .before .before .before .before .before .widest .ensures), c .before .before .before .before .before .before .before .before .before .before .before .before .before .before .before .before .before .before .pre .1 .few)
+mul-lo c =
+    let s = c .before .before .before .before .before .before .before .before .before .before .before .before .before .before .before .before .before .before in
+    let widest = c .before .before .before .before .before .before .before .before .before .widest in
+    omega (arith, widest-at _ _ _ (s .pre .1 .paired) (s .pre .1 .some) (widest .ensures), s .pre .1 .few)
 
 slice-write-lo : tie.Need-slice-write-lo
-slice-write-lo c = widest-at _ _ _ (c .before .before .before .before .before .before .before .before .before .before .before .before .before .before .before .before .before .before .pre .1 .paired) (c .before .before .before .before .before .before .before .before .before .before .before .before .before .before .before .before .before .before .pre .1 .some) (c .before .before .before .before .before .before .before .before .before .widest .ensures)
+slice-write-lo c =
+    let s = c .before .before .before .before .before .before .before .before .before .before .before .before .before .before .before .before .before .before in
+    let widest = c .before .before .before .before .before .before .before .before .before .widest in
+    widest-at _ _ _ (s .pre .1 .paired) (s .pre .1 .some) (widest .ensures)
 
 mul-hi : tie.Need-mul-hi
-mul-hi c = omega (arith, widest-at _ _ _ (c .before .before .before .before .before .before .before .before .before .before .before .before .before .before .before .before .before .before .pre .1 .paired) (c .before .before .before .before .before .before .before .before .before .before .before .before .before .before .before .before .before .before .pre .1 .some) (c .before .before .before .before .before .before .before .before .before .widest .ensures), c .before .before .before .before .before .before .before .before .before .before .before .before .before .before .before .before .before .before .pre .1 .few)
+mul-hi c =
+    let s = c .before .before .before .before .before .before .before .before .before .before .before .before .before .before .before .before .before .before in
+    let widest = c .before .before .before .before .before .before .before .before .before .widest in
+    omega (arith, widest-at _ _ _ (s .pre .1 .paired) (s .pre .1 .some) (widest .ensures), s .pre .1 .few)
 
 slice-write-hi : tie.Need-slice-write-hi
-slice-write-hi c = omega (arith, widest-at _ _ _ (c .before .before .before .before .before .before .before .before .before .before .before .before .before .before .before .before .before .before .pre .1 .paired) (c .before .before .before .before .before .before .before .before .before .before .before .before .before .before .before .before .before .before .pre .1 .some) (c .before .before .before .before .before .before .before .before .before .widest .ensures), c .before .before .before .before .before .before .before .before .before .before .before .before .before .before .before .before .before .before .pre .1 .paired)
+slice-write-hi c =
+    let s = c .before .before .before .before .before .before .before .before .before .before .before .before .before .before .before .before .before .before in
+    let widest = c .before .before .before .before .before .before .before .before .before .widest in
+    omega (arith, widest-at _ _ _ (s .pre .1 .paired) (s .pre .1 .some) (widest .ensures), s .pre .1 .paired)
 
 same-length : tie.Need-same-length
 same-length c = search needs

@@ -51,7 +51,8 @@ returns c = λ bounds. runs-stopped _ _ bounds _ _ _ _ _ (c .before .before .bef
 halve-requires : tie.Need-halve-requires Inv-loop μ-loop
 halve-requires c κs =
     let s = c .before .before .before .before .before .before .before .before .before .before .before .before .before .before in
-    (s .pre .0, working-after (s .pre .1) (c .before .before .before .before .before .before .before .loop .inv .0) (c .before .before .before .before .before .before .before .loop .inv .1) (c .before .before .before .before .before .before .before .loop .inv .2) (c .before .before .before .before .before .before .before .loop .inv .3))
+    let loop = c .before .before .before .before .before .before .before .loop in
+    (s .pre .0, working-after (s .pre .1) (loop .inv .0) (loop .inv .1) (loop .inv .2) (loop .inv .3))
 
 add-h : tie.Need-add-h Inv-loop μ-loop
 add-h c =
@@ -62,7 +63,13 @@ loop-less : tie.Need-loop-less Inv-loop μ-loop
 loop-less c = omega (arith, c .before .before .before .before .before .before .before .before .before .before .before .before .before .before .before .loop-test .taken)
 
 loop-again : tie.Need-loop-again Inv-loop μ-loop
-loop-again c = (c .before .before .before .before .before .before .before .before .halve .kept .1 .1 .1 .1 .1 .1 .0 ∙ c .before .before .before .before .before .before .before .before .before .before .before .before .before .before .before .before .loop .inv .0, c .before .before .before .before .before .before .before .before .halve .kept .1 .1 .1 .1 .1 .1 .1 .0 ∙ c .before .before .before .before .before .before .before .before .before .before .before .before .before .before .before .before .loop .inv .1, c .before .before .before .before .before .before .before .before .halve .kept .1 .1 .1 .1 .1 .1 .1 .1 .0 ∙ c .before .before .before .before .before .before .before .before .before .before .before .before .before .before .before .before .loop .inv .2, c .before .before .before .before .before .before .before .before .halve .kept .1 .1 .1 .1 .1 .1 .1 .1 .1 .0 ∙ c .before .before .before .before .before .before .before .before .before .before .before .before .before .before .before .before .loop .inv .3, λ bounds. runs-on _ _ bounds _ _ _ _ _ (c .before .before .before .before .before .before .before .before .before .before .before .before .before .before .before .before .loop .inv .4 bounds) (c .before .before .before .before .before .before .before .before .before .before .before .before .before .before .before .loop-test .taken) (sym (c .before .before .before .before .before .before .before .before .before .before .before .before .before .before .is-going .ensures) ∙ not-false _ (c .before .before .before .before .before .before .before .before .before .before .before .before .before .if1 .left)) (c .before .before .before .before .before .before .before .before .halve .ensures bounds (c .before .before .before .before .before .before .before .before .before .before .before .before .before .before .before .before .loop .h)))
+loop-again c =
+    let loop = c .before .before .before .before .before .before .before .before .before .before .before .before .before .before .before .before .loop in
+    let loop-test = c .before .before .before .before .before .before .before .before .before .before .before .before .before .before .before .loop-test in
+    let is-going = c .before .before .before .before .before .before .before .before .before .before .before .before .before .before .is-going in
+    let if1 = c .before .before .before .before .before .before .before .before .before .before .before .before .before .if1 in
+    let halve = c .before .before .before .before .before .before .before .before .halve in
+    (halve .kept .1 .1 .1 .1 .1 .1 .0 ∙ loop .inv .0, halve .kept .1 .1 .1 .1 .1 .1 .1 .0 ∙ loop .inv .1, halve .kept .1 .1 .1 .1 .1 .1 .1 .1 .0 ∙ loop .inv .2, halve .kept .1 .1 .1 .1 .1 .1 .1 .1 .1 .0 ∙ loop .inv .3, λ bounds. runs-on _ _ bounds _ _ _ _ _ (loop .inv .4 bounds) (loop-test .taken) (sym (is-going .ensures) ∙ not-false _ (if1 .left)) (halve .ensures bounds (loop .h)))
 
 same-length-5 : tie.Need-same-length-5 Inv-loop μ-loop
 same-length-5 c = c .before .loop .inv .0

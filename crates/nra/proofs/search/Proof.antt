@@ -13,15 +13,21 @@ begin-requires c κs = search needs
 run-requires : tie.Need-run-requires
 run-requires c κs =
     let s = c .before .before .before .before .before .before .before .before .before .before .before .before .before .before .before .before .before .before .before .before .before .before .before in
-    (s .pre .0, working-after (s .pre .1) (c .before .before .before .before .before .before .before .before .before .before .before .before .begin .kept .1 .1 .1 .1 .1 .1 .0) (c .before .before .before .before .before .before .before .before .before .before .before .before .begin .kept .1 .1 .1 .1 .1 .1 .1 .0) (c .before .before .before .before .before .before .before .before .before .before .before .before .begin .kept .1 .1 .1 .1 .1 .1 .1 .1 .0) (c .before .before .before .before .before .before .before .before .before .before .before .before .begin .kept .1 .1 .1 .1 .1 .1 .1 .1 .1 .0))
+    let begin = c .before .before .before .before .before .before .before .before .before .before .before .before .begin in
+    (s .pre .0, working-after (s .pre .1) (begin .kept .1 .1 .1 .1 .1 .1 .0) (begin .kept .1 .1 .1 .1 .1 .1 .1 .0) (begin .kept .1 .1 .1 .1 .1 .1 .1 .1 .0) (begin .kept .1 .1 .1 .1 .1 .1 .1 .1 .1 .0))
 
 at-limit-requires : tie.Need-at-limit-requires
 at-limit-requires c κs =
     let s = c .before .before .before .before .before .before .before .before .before .before .before .before .before .before .before .before .before .before .before .before .before .before .before .before .before .before .before .before .before .before .before .before .before .before .before .before in
-    (s .pre .0, working-after (s .pre .1) (c .before .before .before .before .before .before .before .before .before .before .before .before .run .kept .1 .1 .1 .1 .1 .1 .1 .1 .0 ∙ c .before .before .before .before .before .before .before .before .before .before .before .before .before .before .before .before .before .before .before .before .before .before .before .before .before .begin .kept .1 .1 .1 .1 .1 .1 .0) (c .before .before .before .before .before .before .before .before .before .before .before .before .run .kept .1 .1 .1 .1 .1 .1 .1 .1 .1 .0 ∙ c .before .before .before .before .before .before .before .before .before .before .before .before .before .before .before .before .before .before .before .before .before .before .before .before .before .begin .kept .1 .1 .1 .1 .1 .1 .1 .0) (c .before .before .before .before .before .before .before .before .before .before .before .before .run .kept .1 .1 .1 .1 .1 .1 .1 .1 .1 .1 .0 ∙ c .before .before .before .before .before .before .before .before .before .before .before .before .before .before .before .before .before .before .before .before .before .before .before .before .before .begin .kept .1 .1 .1 .1 .1 .1 .1 .1 .0) (c .before .before .before .before .before .before .before .before .before .before .before .before .run .kept .1 .1 .1 .1 .1 .1 .1 .1 .1 .1 .1 .0 ∙ c .before .before .before .before .before .before .before .before .before .before .before .before .before .before .before .before .before .before .before .before .before .before .before .before .before .begin .kept .1 .1 .1 .1 .1 .1 .1 .1 .1 .0))
+    let begin = c .before .before .before .before .before .before .before .before .before .before .before .before .before .before .before .before .before .before .before .before .before .before .before .before .before .begin in
+    let run = c .before .before .before .before .before .before .before .before .before .before .before .before .run in
+    (s .pre .0, working-after (s .pre .1) (run .kept .1 .1 .1 .1 .1 .1 .1 .1 .0 ∙ begin .kept .1 .1 .1 .1 .1 .1 .0) (run .kept .1 .1 .1 .1 .1 .1 .1 .1 .1 .0 ∙ begin .kept .1 .1 .1 .1 .1 .1 .1 .0) (run .kept .1 .1 .1 .1 .1 .1 .1 .1 .1 .1 .0 ∙ begin .kept .1 .1 .1 .1 .1 .1 .1 .1 .0) (run .kept .1 .1 .1 .1 .1 .1 .1 .1 .1 .1 .1 .0 ∙ begin .kept .1 .1 .1 .1 .1 .1 .1 .1 .1 .0))
 
 same-length : tie.Need-same-length
-same-length c = c .before .before .before .before .before .before .before .before .before .before .before .before .before .before .before .before .before .run .kept .1 .1 .1 .1 .1 .1 .1 .1 .0 ∙ c .before .before .before .before .before .before .before .before .before .before .before .before .before .before .before .before .before .before .before .before .before .before .before .before .before .before .before .before .before .before .begin .kept .1 .1 .1 .1 .1 .1 .0
+same-length c =
+    let begin = c .before .before .before .before .before .before .before .before .before .before .before .before .before .before .before .before .before .before .before .before .before .before .before .before .before .before .before .before .before .before .begin in
+    let run = c .before .before .before .before .before .before .before .before .before .before .before .before .before .before .before .before .before .run in
+    run .kept .1 .1 .1 .1 .1 .1 .1 .1 .0 ∙ begin .kept .1 .1 .1 .1 .1 .1 .0
 
 same-length-2 : tie.Need-same-length-2
 same-length-2 c = search needs
@@ -35,7 +41,10 @@ same-length-4 c = search needs
 returns : tie.Need-returns
 returns c =
     let s = c .before .before .before .before .before .before .before .before .before .before .before .before .before .before .before .before .before .before .before .before .before .before .before .before .before .before .before .before .before .before .before .before .before .before .before .before .before .before .before .before .before in
-    λ bounds. c .before .before .before .before .at-limit .ensures bounds (s .args .tolerance) (c .before .before .before .before .before .before .before .before .before .before .before .before .before .before .before .before .before .run .result .halvings) ∙ ap Stopped (c .before .before .before .before .before .before .before .before .before .before .before .before .before .before .before .before .before .run .ensures bounds ∙ ap (Solver.run _ _ _) (c .before .before .before .before .before .before .before .before .before .before .before .before .before .before .before .before .before .before .before .before .before .before .before .before .before .before .before .before .before .before .begin .ensures bounds))
+    let begin = c .before .before .before .before .before .before .before .before .before .before .before .before .before .before .before .before .before .before .before .before .before .before .before .before .before .before .before .before .before .before .begin in
+    let run = c .before .before .before .before .before .before .before .before .before .before .before .before .before .before .before .before .before .run in
+    let at-limit = c .before .before .before .before .at-limit in
+    λ bounds. at-limit .ensures bounds (s .args .tolerance) (run .result .halvings) ∙ ap Stopped (run .ensures bounds ∙ ap (Solver.run _ _ _) (begin .ensures bounds))
 
 pub search-spec : {M : Type 1} → statement M
 search-spec =

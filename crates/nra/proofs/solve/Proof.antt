@@ -33,7 +33,15 @@ refused-requires-3 : tie.Need-refused-requires-3
 refused-requires-3 c κs = search needs
 
 returns-3 : tie.Need-returns-3
-returns-3 c = refused-boxes _ _ _ _ _ _ (sym (c .before .before .before .before .before .before .test-given .ensures .0) ∙ c .before .before .before .before .before .if1 .left) (c .before .before .before .before .limit-refusal .ensures) (c .before .before .before .if2 .left) (c .before .before .are-boxes .ensures) (c .before .if3 .taken) (c .refused3 .ensures)
+returns-3 c =
+    let test-given = c .before .before .before .before .before .before .test-given in
+    let if1 = c .before .before .before .before .before .if1 in
+    let limit-refusal = c .before .before .before .before .limit-refusal in
+    let if2 = c .before .before .before .if2 in
+    let are-boxes = c .before .before .are-boxes in
+    let if3 = c .before .if3 in
+    let refused3 = c .refused3 in
+    refused-boxes _ _ _ _ _ _ (sym (test-given .ensures .0) ∙ if1 .left) (limit-refusal .ensures) (if2 .left) (are-boxes .ensures) (if3 .taken) (refused3 .ensures)
 
 sub-k : tie.Need-sub-k
 sub-k c = some-given _ _ (sym (c .before .before .before .before .before .test-given .ensures .0) ∙ c .before .before .before .before .if1 .left)
@@ -42,10 +50,24 @@ usual-requires : tie.Need-usual-requires
 usual-requires c κs = search needs
 
 solve-in-requires : tie.Need-solve-in-requires
-solve-in-requires c κs = let e = sym (c .before .before .before .before .before .before .before .test-given .ensures .0) ∙ c .before .before .before .before .before .before .if1 .left in (last-given _ _ e _ (given-ready _ _ e _ _ refl (c .before .before .before .before .before .before .before .test-given .ensures .1)), as-many _ _ (sym (c .before .before .before .are-boxes .ensures) ∙ not-false _ (c .before .before .if3 .left)))
+solve-in-requires c κs =
+    let test-given = c .before .before .before .before .before .before .before .test-given in
+    let if1 = c .before .before .before .before .before .before .if1 in
+    let are-boxes = c .before .before .before .are-boxes in
+    let if3 = c .before .before .if3 in
+    let e = sym (test-given .ensures .0) ∙ if1 .left in (last-given _ _ e _ (given-ready _ _ e _ _ refl (test-given .ensures .1)), as-many _ _ (sym (are-boxes .ensures) ∙ not-false _ (if3 .left)))
 
 returns-4 : tie.Need-returns-4
-returns-4 c = solved-given _ _ _ _ _ _ (sym (c .before .before .before .before .before .before .before .before .test-given .ensures .0) ∙ c .before .before .before .before .before .before .before .if1 .left) (c .before .before .before .before .before .before .limit-refusal .ensures) (c .before .before .before .before .before .if2 .left) (c .before .before .before .before .are-boxes .ensures) (c .before .before .before .if3 .left) (c .before .usual .ensures) (c .solve-in .ensures)
+returns-4 c =
+    let test-given = c .before .before .before .before .before .before .before .before .test-given in
+    let if1 = c .before .before .before .before .before .before .before .if1 in
+    let limit-refusal = c .before .before .before .before .before .before .limit-refusal in
+    let if2 = c .before .before .before .before .before .if2 in
+    let are-boxes = c .before .before .before .before .are-boxes in
+    let if3 = c .before .before .before .if3 in
+    let usual = c .before .usual in
+    let solve-in = c .solve-in in
+    solved-given _ _ _ _ _ _ (sym (test-given .ensures .0) ∙ if1 .left) (limit-refusal .ensures) (if2 .left) (are-boxes .ensures) (if3 .left) (usual .ensures) (solve-in .ensures)
 
 pub solve-spec : {M : Type 1} → statement M
 solve-spec =

@@ -50,33 +50,47 @@ usual-requires c κs = search needs
 array-share-prefix-lo : tie.Need-array-share-prefix-lo
 array-share-prefix-lo c =
     let s = c .before .before .before .before .before .before .before .before in
-    few (c .before .before .before .before .before .before .file-bounds .result .lo) (length-unmapped Float (c .before .before .before .before .before .before .file-bounds .result .lo) 16 (c .before .before .before .before .before .before .file-bounds .ok .1 .1 .0 .1 .0 .1)) (c .before .before .before .before .before .before .file-bounds .ensures .0) (is-laid _ (s .pre .0))
+    let file-bounds = c .before .before .before .before .before .before .file-bounds in
+    few (file-bounds .result .lo) (length-unmapped Float (file-bounds .result .lo) 16 (file-bounds .ok .1 .1 .0 .1 .0 .1)) (file-bounds .ensures .0) (is-laid _ (s .pre .0))
 
 slice-aggregate-solve-in : tie.Need-slice-aggregate-solve-in
 slice-aggregate-solve-in c =
     let s = c .before .before .before .before .before .before .before .before .before in
-    sym (length-take-le _ (c .before .before .before .before .before .before .before .file-bounds .result .lo) (few (c .before .before .before .before .before .before .before .file-bounds .result .lo) (length-unmapped Float (c .before .before .before .before .before .before .before .file-bounds .result .lo) 16 (c .before .before .before .before .before .before .before .file-bounds .ok .1 .1 .0 .1 .0 .1)) (c .before .before .before .before .before .before .before .file-bounds .ensures .0) (is-laid _ (s .pre .0))))
+    let file-bounds = c .before .before .before .before .before .before .before .file-bounds in
+    sym (length-take-le _ (file-bounds .result .lo) (few (file-bounds .result .lo) (length-unmapped Float (file-bounds .result .lo) 16 (file-bounds .ok .1 .1 .0 .1 .0 .1)) (file-bounds .ensures .0) (is-laid _ (s .pre .0))))
 
 array-share-prefix-hi : tie.Need-array-share-prefix-hi
 array-share-prefix-hi c =
     let s = c .before .before .before .before .before .before .before .before .before in
-    few (c .before .before .before .before .before .before .before .file-bounds .result .hi) (length-unmapped Float (c .before .before .before .before .before .before .before .file-bounds .result .hi) 16 (c .before .before .before .before .before .before .before .file-bounds .ok .1 .1 .1 .0 .1 .0 .1)) (c .before .before .before .before .before .before .before .file-bounds .ensures .0) (is-laid _ (s .pre .0))
+    let file-bounds = c .before .before .before .before .before .before .before .file-bounds in
+    few (file-bounds .result .hi) (length-unmapped Float (file-bounds .result .hi) 16 (file-bounds .ok .1 .1 .1 .0 .1 .0 .1)) (file-bounds .ensures .0) (is-laid _ (s .pre .0))
 
 slice-aggregate-solve-in-2 : tie.Need-slice-aggregate-solve-in-2
 slice-aggregate-solve-in-2 c =
     let s = c .before .before .before .before .before .before .before .before .before .before in
-    sym (length-take-le _ (c .before .before .before .before .before .before .before .before .file-bounds .result .hi) (few (c .before .before .before .before .before .before .before .before .file-bounds .result .hi) (length-unmapped Float (c .before .before .before .before .before .before .before .before .file-bounds .result .hi) 16 (c .before .before .before .before .before .before .before .before .file-bounds .ok .1 .1 .1 .0 .1 .0 .1)) (c .before .before .before .before .before .before .before .before .file-bounds .ensures .0) (is-laid _ (s .pre .0))))
+    let file-bounds = c .before .before .before .before .before .before .before .before .file-bounds in
+    sym (length-take-le _ (file-bounds .result .hi) (few (file-bounds .result .hi) (length-unmapped Float (file-bounds .result .hi) 16 (file-bounds .ok .1 .1 .1 .0 .1 .0 .1)) (file-bounds .ensures .0) (is-laid _ (s .pre .0))))
 
 solve-in-requires : tie.Need-solve-in-requires
 solve-in-requires c κs =
     let s = c .before .before .before .before .before .before .before .before .before .before in
-    (last-of _ (s .pre .0) _ _ _ (c .before .before .before .before .nodes-of .ensures) (c .before .before .before .constraints-of .ensures) (c .before .before .before .before .before .constraint-count .ensures) _ (s .pre .1), length-take-le _ (c .before .before .before .before .before .before .before .before .file-bounds .result .hi) (few (c .before .before .before .before .before .before .before .before .file-bounds .result .hi) (length-unmapped Float (c .before .before .before .before .before .before .before .before .file-bounds .result .hi) 16 (c .before .before .before .before .before .before .before .before .file-bounds .ok .1 .1 .1 .0 .1 .0 .1)) (c .before .before .before .before .before .before .before .before .file-bounds .ensures .0) (is-laid _ (s .pre .0))) ∙ sym (length-take-le _ (c .before .before .before .before .before .before .before .before .file-bounds .result .lo) (few (c .before .before .before .before .before .before .before .before .file-bounds .result .lo) (length-unmapped Float (c .before .before .before .before .before .before .before .before .file-bounds .result .lo) 16 (c .before .before .before .before .before .before .before .before .file-bounds .ok .1 .1 .0 .1 .0 .1)) (c .before .before .before .before .before .before .before .before .file-bounds .ensures .0) (is-laid _ (s .pre .0)))))
+    let file-bounds = c .before .before .before .before .before .before .before .before .file-bounds in
+    let constraint-count = c .before .before .before .before .before .constraint-count in
+    let nodes-of = c .before .before .before .before .nodes-of in
+    let constraints-of = c .before .before .before .constraints-of in
+    (last-of _ (s .pre .0) _ _ _ (nodes-of .ensures) (constraints-of .ensures) (constraint-count .ensures) _ (s .pre .1), length-take-le _ (file-bounds .result .hi) (few (file-bounds .result .hi) (length-unmapped Float (file-bounds .result .hi) 16 (file-bounds .ok .1 .1 .1 .0 .1 .0 .1)) (file-bounds .ensures .0) (is-laid _ (s .pre .0))) ∙ sym (length-take-le _ (file-bounds .result .lo) (few (file-bounds .result .lo) (length-unmapped Float (file-bounds .result .lo) 16 (file-bounds .ok .1 .1 .0 .1 .0 .1)) (file-bounds .ensures .0) (is-laid _ (s .pre .0)))))
 
 returns : tie.Need-returns
 unfolding boxesOf
 returns c =
     let s = c .before .before .before .before .before .before .before .before .before .before .before in
-    solved-accepted _ _ _ (s .pre .0) _ _ _ (c .before .before .before .before .before .nodes-of .ensures) (c .before .before .before .before .constraints-of .ensures) (c .before .before .before .before .before .before .constraint-count .ensures) (c .before .before .before .usual .ensures) (c .before .before .before .before .before .before .before .before .before .file-bounds .ensures .1) (c .solve-in .ensures)
+    let file-bounds = c .before .before .before .before .before .before .before .before .before .file-bounds in
+    let constraint-count = c .before .before .before .before .before .before .constraint-count in
+    let nodes-of = c .before .before .before .before .before .nodes-of in
+    let constraints-of = c .before .before .before .before .constraints-of in
+    let usual = c .before .before .before .usual in
+    let solve-in = c .solve-in in
+    solved-accepted _ _ _ (s .pre .0) _ _ _ (nodes-of .ensures) (constraints-of .ensures) (constraint-count .ensures) (usual .ensures) (file-bounds .ensures .1) (solve-in .ensures)
 
 pub solve-accepted-spec : {M : Type 1} → statement M
 solve-accepted-spec =

@@ -82,13 +82,16 @@ slice-aggregate-answer-of-2 c =
 answer-of-requires : tie.Need-answer-of-requires
 answer-of-requires c κs =
     let s = c .before .before .before .before .before .before .before .before .before .before .before .before .before .before .before in
-    let l = length-take-le (s .args .boxes .count) ((c .before .before .before .before .before .before .search .last .1 .1 .1 .1 .1 .1 .1 .0) ++ drop (s .args .boxes .count) (s .args .boxes .lo)) ((lent (s .args .boxes .lo) (c .before .before .before .before .before .before .search .last .1 .1 .1 .1 .1 .1 .1 .0) (s .args .boxes .count) (few-lows s) (c .before .before .before .before .before .before .search .kept .1 .1 .1 .1 .1 .1 .1 .0)) .fits) in (length-take-le _ _ ((lent (s .args .boxes .hi) (c .before .before .before .before .before .before .search .last .1 .1 .1 .1 .1 .1 .1 .1 .0) (s .args .boxes .count) (few-highs s) (c .before .before .before .before .before .before .search .kept .1 .1 .1 .1 .1 .1 .1 .1 .0)) .fits) ∙ sym l, omega (arith, l, s .pre .1 .1))
+    let search = c .before .before .before .before .before .before .search in
+    let l = length-take-le (s .args .boxes .count) ((search .last .1 .1 .1 .1 .1 .1 .1 .0) ++ drop (s .args .boxes .count) (s .args .boxes .lo)) ((lent (s .args .boxes .lo) (search .last .1 .1 .1 .1 .1 .1 .1 .0) (s .args .boxes .count) (few-lows s) (search .kept .1 .1 .1 .1 .1 .1 .1 .0)) .fits) in (length-take-le _ _ ((lent (s .args .boxes .hi) (search .last .1 .1 .1 .1 .1 .1 .1 .1 .0) (s .args .boxes .count) (few-highs s) (search .kept .1 .1 .1 .1 .1 .1 .1 .1 .0)) .fits) ∙ sym l, omega (arith, l, s .pre .1 .1))
 
 returns : tie.Need-returns
 unfolding boxesOf
 returns c =
     let s = c .before .before .before .before .before .before .before .before .before .before .before .before .before .before .before .before in
-    λ bounds. c .answer-of .ensures _ (ended-there _ _ _ _ _ (lent _ (c .before .before .before .before .before .before .before .search .last .1 .1 .1 .1 .1 .1 .1 .0) _ (few-lows s) (c .before .before .before .before .before .before .before .search .kept .1 .1 .1 .1 .1 .1 .1 .0)) (lent _ (c .before .before .before .before .before .before .before .search .last .1 .1 .1 .1 .1 .1 .1 .1 .0) _ (few-highs s) (c .before .before .before .before .before .before .before .search .kept .1 .1 .1 .1 .1 .1 .1 .1 .0)) _ _ (c .before .before .before .before .before .before .before .search .ensures bounds))
+    let search = c .before .before .before .before .before .before .before .search in
+    let answer-of = c .answer-of in
+    λ bounds. answer-of .ensures _ (ended-there _ _ _ _ _ (lent _ (search .last .1 .1 .1 .1 .1 .1 .1 .0) _ (few-lows s) (search .kept .1 .1 .1 .1 .1 .1 .1 .0)) (lent _ (search .last .1 .1 .1 .1 .1 .1 .1 .1 .0) _ (few-highs s) (search .kept .1 .1 .1 .1 .1 .1 .1 .1 .0)) _ _ (search .ensures bounds))
 
 pub solve-boxes-spec : {M : Type 1} → statement M
 solve-boxes-spec =

@@ -28,7 +28,13 @@ solve-accepted-requires : tie.Need-solve-accepted-requires
 solve-accepted-requires c κs = let e = sym (c .before .before .before .before .test-file .ensures .0) ∙ c .before .before .before .if1 .left in (e, file-ready _ e _ _ refl (c .before .before .before .before .test-file .ensures .1))
 
 returns-3 : tie.Need-returns-3
-returns-3 c = solved-file _ _ _ (sym (c .before .before .before .before .before .test-file .ensures .0) ∙ c .before .before .before .before .if1 .left) (c .before .before .before .limit-refusal .ensures) (c .before .before .if2 .left) (c .solve-accepted .ensures)
+returns-3 c =
+    let test-file = c .before .before .before .before .before .test-file in
+    let if1 = c .before .before .before .before .if1 in
+    let limit-refusal = c .before .before .before .limit-refusal in
+    let if2 = c .before .before .if2 in
+    let solve-accepted = c .solve-accepted in
+    solved-file _ _ _ (sym (test-file .ensures .0) ∙ if1 .left) (limit-refusal .ensures) (if2 .left) (solve-accepted .ensures)
 
 pub solve-file-spec : {M : Type 1} → statement M
 solve-file-spec =

@@ -44,10 +44,14 @@ loop-less c = omega arith
 loop-again : tie.Need-loop-again Inv-loop μ-loop
 loop-again c =
     let s = c .before .before .before .before .before .before .before .before .before in
+    let loop = c .before .before .before .before .loop in
+    let box-at2 = c .before .before .box-at2 in
+    let width2 = c .before .width2 in
+    let if1 = c .if1 in
     let lo = s .args .lo .now in
     let hi = s .args .hi .now in
     let n : length (intervals lo hi) ≡ length lo = intervals-length lo hi (s .pre) in
-    widest-keep (intervals lo hi) _ _ _ (omega (arith, n)) (c .before .before .before .before .loop .inv) (sym (ap (λ (w : Float). lt w (c .before .before .before .before .loop .most)) (c .before .width2 .ensures ∙ ap width (c .before .before .box-at2 .ensures))) ∙ c .if1 .taken)
+    widest-keep (intervals lo hi) _ _ _ (omega (arith, n)) (loop .inv) (sym (ap (λ (w : Float). lt w (loop .most)) (width2 .ensures ∙ ap width (box-at2 .ensures))) ∙ if1 .taken)
 
 add-i-2 : tie.Need-add-i-2 Inv-loop μ-loop
 add-i-2 c = omega arith
