@@ -4,13 +4,13 @@ use mathlib.Core.Path.{_≡_, refl, sym, ap, _∙_}
 use mathlib.Core.Bool.{Bool, true, false, not, _&&_}
 use mathlib.Core.List.{List}
 use native.Mathlib.Omega.{arith}
-use borrow.Author.Tests.{leb-true, not-true, not-false}
+use borrow.Author.Tests.{not-true, not-false}
 use lib.Dec.{leb}
 use lib.Ieee.{Float, binary64}
 use lib.ListN.{length}
 use Rattle.number.specs.Halving.{sound}
 use Rattle.tree.specs.Refusal.{_or-else_, _unless_}
-use Rattle.tree.specs.RefusalLaws.{both, none-both, or-else-refused, none-unless}
+use Rattle.tree.specs.RefusalLaws.{none-both, or-else-refused}
 use Rattle.settings.specs.Settings.{usual}
 use Rattle.settings.specs.declared.Settings.{Settings}
 use Rattle.interval.specs.declared.Interval.{Interval}
@@ -25,6 +25,7 @@ use Rattle.nra.specs.Answers.{problem, solvedOf, refusedWith}
 use Rattle.nra.specs.Calls.{limitRefusal, boxesRefusal, unlessRefused, answeredBy, solveFile, solveGiven}
 use Rattle.nra.specs.declared.decide.Decided.{Decided}
 use Rattle.nra.specs.Deciding.{QuantResult, decidedOf, undecided, rangeRefusal, decidedBy}
+use Rattle.nra.specs.Decisions.{range-few}
 use Rattle.nra.specs.Solver.{Answer, solve}
 
 unless-refused : (q : ℕ) (a : Answer) → (q ≡ 0 → ⊥) → refusedWith q ≡ unlessRefused q a
@@ -108,15 +109,11 @@ module _ (nodes b : List ℕ) (lo hi : Float) (n : ℕ) where
     pub refused-range : leb n 16 && s ≡ false → 9 ≡ givenRefusal nodes b or-else rangeRefusal lo hi n
     refused-range e = by-range e
 
-  range-told : rangeRefusal lo hi n ≡ 0 → n ≤ 16
-  unfolding rangeRefusal
-  range-told e = leb-true n 16 (both (leb n 16) (sound binary64 lo hi) (none-unless 8 (leb n 16 && sound binary64 lo hi) e) .0)
-
   module _ {q : ℕ} (tested : q ≡ givenRefusal nodes b or-else rangeRefusal lo hi n) where
     pub decision-accepted : q ≡ 0 → (givenRefusal nodes b ≡ 0) × (n ≤ 16)
     decision-accepted e =
         let w = none-both (givenRefusal nodes b) (rangeRefusal lo hi n) (sym tested ∙ e) in
-        (w .0, range-told (w .1))
+        (w .0, range-few lo hi n (w .1))
 
 module _ (nodes b : List ℕ) (lo hi : Float) (n : ℕ) (decide : Settings → Constraint → QuantResult) {z : Decided} {q : ℕ} (tested : q ≡ givenRefusal nodes b or-else rangeRefusal lo hi n) where
   pub decision-refused : (q ≡ 0 → ⊥) → z ≡ undecided q → z ≡ decidedBy (readGiven nodes b) (rangeRefusal lo hi n) (decide usual)

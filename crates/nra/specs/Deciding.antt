@@ -84,12 +84,21 @@ decideExists σ v lo hi c n = existsBy n v (first (λ x. check σ (pointAt n v x
 abbrev pub decided : ℕ → Verdict → List Float → Decided
 decided refusal verdict p = record { refusal = refusal; verdict = verdict; count = length p; point = padded p }
 
+abbrev pub verdictOf : QuantResult → Verdict
+verdictOf True = Verdict.True
+verdictOf (TrueWithWitness p) = Verdict.TrueWithWitness
+verdictOf (FalseWithCounterexample p) = Verdict.FalseWithCounterexample
+verdictOf Unknown = Verdict.Unknown
+
+abbrev pub pointOf : QuantResult → List Float
+pointOf True = []
+pointOf (TrueWithWitness p) = p
+pointOf (FalseWithCounterexample p) = p
+pointOf Unknown = []
+
 -- refusal 0 is none
 unfoldable pub decidedOf : QuantResult → Decided
-decidedOf True = decided 0 Verdict.True []
-decidedOf (TrueWithWitness p) = decided 0 Verdict.TrueWithWitness p
-decidedOf (FalseWithCounterexample p) = decided 0 Verdict.FalseWithCounterexample p
-decidedOf Unknown = decided 0 Verdict.Unknown []
+decidedOf q = decided 0 (verdictOf q) (pointOf q)
 
 -- a refusal is its number only: the rest is the same in each
 abbrev pub undecided : ℕ → Decided

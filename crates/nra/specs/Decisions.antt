@@ -1,18 +1,23 @@
--- What a decision tells: a witness passes the check, a counterexample fails it, and True is a conflict of the negation, no more. Theorems about the
--- definitions. Assumes nothing.
+-- What a decision tells: a witness passes the check, a counterexample fails it, and True is a conflict of the negation, no more; a point
+-- has at most as many values as there are variables. Theorems about the definitions. Assumes nothing.
 use mathlib.Core.Path.{_≡_, refl, sym, ap, _∙_, subst}
-use Prim.Native.Nat.{ℕ}
-use mathlib.Core.Bool.{Bool, true, false, not}
+use Prim.Native.Nat.{ℕ, zero, suc, _≤_}
+use mathlib.Core.Bool.{Bool, true, false, not, _&&_}
 use mathlib.Core.List.{List, [], _∷_}
 use native.Mathlib.Omega.{arith}
-use borrow.Author.Tests.{not-true}
+use borrow.Author.Tests.{leb-true, not-true}
+use lib.Dec.{leb}
 use lib.ListN.{length, replicate, length-set, length-replicate}
-use lib.Ieee.{Float}
+use lib.Ieee.{Float, binary64}
 use Rattle.number.specs.Notation.{if_then_else_, whole}
+use Rattle.number.specs.Halving.{sound}
+use Rattle.tree.specs.RefusalLaws.{both, none-unless}
+use Rattle.settings.specs.Settings.{usual}
 use Rattle.settings.specs.declared.Settings.{Settings}
 use Rattle.interval.specs.Interval.{_‥_}
 use Rattle.constraint.specs.Constraint.{Constraint, Not}
 use Rattle.normal.specs.NormalForm.{toNnf}
+use Rattle.file.specs.File.{Read, Refused, Accepted, readGiven}
 use Rattle.point.specs.Check.{check}
 use Rattle.narrow.specs.declared.PropResult.{PropResult}
 use Rattle.narrow.specs.declared.PropResult.the-variants.{Changed, Stable, Conflict}
@@ -20,7 +25,7 @@ use Rattle.narrow.specs.Narrowing.{propagate}
 use Rattle.narrow.specs.Modes.{isConflict}
 use Rattle.nra.specs.declared.decide.Found.{Found}
 use Rattle.nra.specs.declared.decide.Found.the-variants.{Nowhere, At}
-use Rattle.nra.specs.Deciding.{QuantResult, True, TrueWithWitness, FalseWithCounterexample, Unknown, pointAt, forallSamples, existsSamples, first, boxesAt, refutes, forallBy, decideForall, existsBy, decideExists}
+use Rattle.nra.specs.Deciding.{QuantResult, True, TrueWithWitness, FalseWithCounterexample, Unknown, pointAt, forallSamples, existsSamples, first, boxesAt, refutes, forallBy, decideForall, existsBy, decideExists, pointOf, decidedOf, rangeRefusal, decidedBy, decideForallGiven, decideExistsGiven}
 
 pub point-length : (n v : ℕ) (x : Float) → length (pointAt n v x) ≡ n
 unfolding pointAt
@@ -74,3 +79,42 @@ module _ (σ : Settings) (v : ℕ) (lo hi : Float) (c : Constraint) (n : ℕ) wh
       only Changed (At x) e = absurd (let z : _≡_ {A = ℕ} 0 1 = cc in omega arith)
       only Stable Nowhere e = absurd (let z : _≡_ {A = ℕ} 0 1 = cc in omega arith)
       only Stable (At x) e = absurd (let z : _≡_ {A = ℕ} 0 1 = cc in omega arith)
+
+  -- the point has as many values as there are variables
+  pub forall-values : length (pointOf (decideForall σ v lo hi c n)) ≤ n
+  unfolding decideForall forallBy
+  forall-values = by (refutes σ c (boxesAt n v (lo ‥ hi))) failing
+    where
+      by : (t : Bool) (f : Found) → length (pointOf (forallBy n v t f)) ≤ n
+      by true f = omega arith
+      by false Nowhere = omega arith
+      by false (At x) = omega (arith, point-length n v x)
+
+  pub exists-values : length (pointOf (decideExists σ v lo hi c n)) ≤ n
+  unfolding decideExists existsBy
+  exists-values = by (first (λ x. check σ (pointAt n v x) c) (existsSamples lo hi))
+    where
+      by : (f : Found) → length (pointOf (existsBy n v f)) ≤ n
+      by Nowhere = omega arith
+      by (At x) = omega (arith, point-length n v x)
+
+-- ---- the calls
+pub range-few : (lo hi : Float) (n : ℕ) → rangeRefusal lo hi n ≡ 0 → n ≤ 16
+unfolding rangeRefusal
+range-few lo hi n e = leb-true n 16 (both (leb n 16) (sound binary64 lo hi) (none-unless 8 (leb n 16 && sound binary64 lo hi) e) .0)
+
+module _ (lo hi : Float) (n : ℕ) (decide : Constraint → QuantResult) (few : (c : Constraint) → length (pointOf (decide c)) ≤ n) where
+  given-values : (x : Read) (r : ℕ) → rangeRefusal lo hi n ≡ r → (decidedBy x r decide .count ≤ n) × (decidedBy x r decide .count ≤ 16)
+  unfolding decidedOf
+  given-values (Refused q) r e = (omega arith, omega arith)
+  given-values (Accepted c bounds) zero e = (few c, omega (arith, few c, range-few lo hi n e))
+  given-values (Accepted c bounds) (suc r) e = (omega arith, omega arith)
+
+module _ (nodes b : List ℕ) (v : ℕ) (lo hi : Float) (n : ℕ) where
+  pub forall-given-values : (decideForallGiven nodes b v lo hi n .count ≤ n) × (decideForallGiven nodes b v lo hi n .count ≤ 16)
+  unfolding decideForallGiven
+  forall-given-values = given-values lo hi n (λ c. decideForall usual v lo hi c n) (λ c. forall-values usual v lo hi c n) (readGiven nodes b) (rangeRefusal lo hi n) refl
+
+  pub exists-given-values : (decideExistsGiven nodes b v lo hi n .count ≤ n) × (decideExistsGiven nodes b v lo hi n .count ≤ 16)
+  unfolding decideExistsGiven
+  exists-given-values = given-values lo hi n (λ c. decideExists usual v lo hi c n) (λ c. exists-values usual v lo hi c n) (readGiven nodes b) (rangeRefusal lo hi n) refl

@@ -1,4 +1,5 @@
--- The starred examples of document 01, "Conditions of acceptance", in its order, as one table; and those of a limit of 0 and 1. Assumes nothing.
+-- The starred examples of document 01, "Conditions of acceptance", in its order, as one table; those of a limit of 0 and 1; and decisions.
+-- Assumes nothing.
 use mathlib.Core.Path.{_≡_, refl}
 use Prim.Native.Nat.{ℕ, _^_}
 use mathlib.Core.Bool.{true, false}
@@ -20,6 +21,7 @@ use Rattle.narrow.specs.declared.PropResult.the-variants.{Changed, Stable, Conf
 use Rattle.narrow.specs.Narrowing.{Narrowed, _leaving_, propagate}
 use Rattle.nra.specs.Solver.{Problem, Stop, limit, unsatisfied, Answer, assignment, failed, State, Progress, Stopped, Going, begin, halve, solve}
 use Rattle.nra.specs.Answers.{problem}
+use Rattle.nra.specs.Deciding.{QuantResult, True, TrueWithWitness, FalseWithCounterexample, Unknown, decideForall, decideExists}
 use Rattle.nra.specs.Computing.{computing}
 
 -- narrowing by one constraint in one box
@@ -110,3 +112,36 @@ exact-1 = refl
 printed : solve usual (within (is GtZero) (whole 1 ‥ whole 3)) 10_000 ≡ assignment (whole 2 ∷ []) false 0
 unfolding computing
 printed = refl
+
+-- ---- decisions about variable 0 of one
+abbrev forAll : Constraint → Float → Float → QuantResult
+forAll c lo hi = decideForall usual 0 lo hi c 1
+
+abbrev exists : Constraint → Float → Float → QuantResult
+exists c lo hi = decideExists usual 0 lo hi c 1
+
+positive : forAll (is GtZero) (whole 1) (whole 3) ≡ True
+unfolding computing
+positive = refl
+
+not-positive : forAll (is GtZero) (neg (whole 1)) (whole 3) ≡ FalseWithCounterexample (neg (whole 1) ∷ [])
+unfolding computing
+not-positive = refl
+
+-- zero lies in the range, and no sample is zero
+not-seen : forAll (is NeZero) (neg (whole 1)) (whole 2) ≡ Unknown
+unfolding computing
+not-seen = refl
+
+witness : exists (is GtZero) (whole 1) (whole 3) ≡ TrueWithWitness (whole 2 ∷ [])
+unfolding computing
+witness = refl
+
+no-witness : exists (is GtZero) (neg (whole 3)) (neg (whole 1)) ≡ Unknown
+unfolding computing
+no-witness = refl
+
+-- a variable beyond the point alters nothing in it
+beyond : decideForall usual 1 (whole 1) (whole 3) (is GtZero) 1 ≡ FalseWithCounterexample (whole 0 ∷ [])
+unfolding computing
+beyond = refl
