@@ -2,3 +2,4 @@ pub mod Exported
 pub mod Pointed
 pub mod Narrowed
 pub mod Normalised
+pub mod Decided
