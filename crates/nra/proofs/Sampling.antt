@@ -33,6 +33,11 @@ split n a h =
 first-same : {A : Type 0} (n : ℕ) (a : A) → n ≤ 16 → take n (replicate 16 a) ≡ replicate n a
 first-same n a h = ap (take n) (split n a h) ∙ take-at (replicate n a) (replicate (16 - n) a) n (length-replicate n a)
 
+same-boxes : (m : ℕ) (lo hi : Float) → intervals (replicate m lo) (replicate m hi) ≡ replicate m (lo ‥ hi)
+unfolding intervals
+same-boxes zero lo hi = refl
+same-boxes (suc m) lo hi = ap (λ (r : List Interval). (lo ‥ hi) ∷ r) (same-boxes m lo hi)
+
 module _ (n v : ℕ) (few : n ≤ 16) where
   pub placed : (x : Float) → v < n → set (replicate 16 (whole 0)) v x ≡ padded (pointAt n v x)
   unfolding padded pointAt
@@ -51,11 +56,6 @@ module _ (n v : ℕ) (few : n ≤ 16) where
   pub point-there : (x : Float) {p : List Float} → p ≡ padded (pointAt n v x) → take n p ≡ pointAt n v x
   unfolding padded
   point-there x e = ap (take n) e ∙ take-at (pointAt n v x) _ n (point-length n v x)
-
-  same-boxes : (m : ℕ) (lo hi : Float) → intervals (replicate m lo) (replicate m hi) ≡ replicate m (lo ‥ hi)
-  unfolding intervals
-  same-boxes zero lo hi = refl
-  same-boxes (suc m) lo hi = ap (λ (r : List Interval). (lo ‥ hi) ∷ r) (same-boxes m lo hi)
 
   all-boxes : (lo hi : Float) → intervals (take n (replicate 16 lo)) (take n (replicate 16 hi)) ≡ replicate n (lo ‥ hi)
   all-boxes lo hi = rw (first-same n lo few, first-same n hi few) (same-boxes n lo hi)

@@ -31,7 +31,7 @@ pub data QuantResult : Type 0 where
   FalseWithCounterexample : List Float → QuantResult
   Unknown : QuantResult
 
--- ---- the samples
+-- ---- the samples, in the Rust's order
 
 -- the point with the variable at x and every other one at 0; a variable beyond the point alters nothing in it
 unfoldable pub pointAt : ℕ → ℕ → Float → List Float
@@ -79,7 +79,12 @@ existsBy n v (At x) = TrueWithWitness (pointAt n v x)
 unfoldable pub decideExists : Settings → ℕ → Float → Float → Constraint → ℕ → QuantResult
 decideExists σ v lo hi c n = existsBy n v (first (λ x. check σ (pointAt n v x) c) (existsSamples lo hi))
 
--- ---- what the calls give back, as the code has it
+-- ---- as the code has it
+
+-- whether a check answers as the search wants it to: to pass, or to fail
+abbrev pub answersAs : Bool → Bool → Bool
+answersAs true passes = passes
+answersAs false passes = not passes
 
 abbrev pub decided : ℕ → Verdict → List Float → Decided
 decided refusal verdict p = record { refusal = refusal; verdict = verdict; count = length p; point = padded p }
@@ -104,25 +109,17 @@ decidedOf q = decided 0 (verdictOf q) (pointOf q)
 abbrev pub undecided : ℕ → Decided
 undecided r = decided r Verdict.Unknown []
 
--- whether a check answers as the search wants it to
-abbrev pub answersAs : Bool → Bool → Bool
-answersAs true passes = passes
-answersAs false passes = not passes
-
 -- ---- the calls on records, under document 01's settings
 
 -- 9: over 16 variables, or an unsound range
 unfoldable pub rangeRefusal : Float → Float → ℕ → ℕ
 rangeRefusal lo hi n = 9 unless leb n 16 && sound binary64 lo hi
 
-abbrev pub unlessRefused : ℕ → QuantResult → Decided
-unlessRefused zero q = decidedOf q
-unlessRefused (suc r) q = undecided (suc r)
-
--- before that the records' own refusal, 2 to 7
+-- the records' own refusal, 2 to 7, then that one
 abbrev pub decidedBy : Read → ℕ → (Constraint → QuantResult) → Decided
 decidedBy (Refused r) later decide = undecided r
-decidedBy (Accepted c bounds) later decide = unlessRefused later (decide c)
+decidedBy (Accepted c bounds) zero decide = decidedOf (decide c)
+decidedBy (Accepted c bounds) (suc r) decide = undecided (suc r)
 
 unfoldable pub decideForallGiven : List ℕ → List ℕ → ℕ → Float → Float → ℕ → Decided
 decideForallGiven nodes b v lo hi n = decidedBy (readGiven nodes b) (rangeRefusal lo hi n) λ c. decideForall usual v lo hi c n

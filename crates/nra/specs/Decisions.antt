@@ -1,6 +1,6 @@
 -- What a decision tells: a witness passes the check, a counterexample fails it, and True is a conflict of the negation, no more; a point
 -- has at most as many values as there are variables. Theorems about the definitions. Assumes nothing.
-use mathlib.Core.Path.{_≡_, refl, sym, ap, _∙_, subst}
+use mathlib.Core.Path.{_≡_, refl, ap, _∙_, subst}
 use Prim.Native.Nat.{ℕ, zero, suc, _≤_}
 use mathlib.Core.Bool.{Bool, true, false, not, _&&_}
 use mathlib.Core.List.{List, [], _∷_}
@@ -25,7 +25,7 @@ use Rattle.narrow.specs.Narrowing.{propagate}
 use Rattle.narrow.specs.Modes.{isConflict}
 use Rattle.nra.specs.declared.decide.Found.{Found}
 use Rattle.nra.specs.declared.decide.Found.the-variants.{Nowhere, At}
-use Rattle.nra.specs.Deciding.{QuantResult, True, TrueWithWitness, FalseWithCounterexample, Unknown, pointAt, forallSamples, existsSamples, first, boxesAt, refutes, forallBy, decideForall, existsBy, decideExists, pointOf, decidedOf, rangeRefusal, decidedBy, decideForallGiven, decideExistsGiven}
+use Rattle.nra.specs.Deciding.{QuantResult, True, TrueWithWitness, FalseWithCounterexample, pointAt, forallSamples, existsSamples, first, boxesAt, refutes, forallBy, decideForall, existsBy, decideExists, pointOf, decidedOf, rangeRefusal, decidedBy, decideForallGiven, decideExistsGiven}
 
 pub point-length : (n v : ℕ) (x : Float) → length (pointAt n v x) ≡ n
 unfolding pointAt

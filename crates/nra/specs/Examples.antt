@@ -17,6 +17,7 @@ use Rattle.normal.specs.NormalForm.{toNnf}
 use Rattle.point.specs.declared.eval.EvalError.the-variants.{ComplexResult}
 use Rattle.point.specs.declared.eval.Evaluated.the-variants.{Value, Failed}
 use Rattle.point.specs.Eval.{evalReal}
+use Rattle.point.specs.Check.{check}
 use Rattle.narrow.specs.declared.PropResult.the-variants.{Changed, Stable, Conflict}
 use Rattle.narrow.specs.Narrowing.{Narrowed, _leaving_, propagate}
 use Rattle.nra.specs.Solver.{Problem, Stop, limit, unsatisfied, Answer, assignment, failed, State, Progress, Stopped, Going, begin, halve, solve}
@@ -145,3 +146,16 @@ no-witness = refl
 beyond : decideForall usual 1 (whole 1) (whole 3) (is GtZero) 1 ≡ FalseWithCounterexample (whole 0 ∷ [])
 unfolding computing
 beyond = refl
+
+-- True is no more than a conflict: GtZero(Eml(Var 0, Const 5)) in [-3,3] is True, although it fails at -3. Narrowing does not round its ends outward,
+-- and exp(ln 5) is not 5, so the constant is met by an empty interval.
+abbrev above : Constraint
+above = Atom GtZero (Tree.Eml (Tree.Var 0) (Tree.Const (whole 5)))
+
+true-though : forAll above (neg (whole 3)) (whole 3) ≡ True
+unfolding computing
+true-though = refl
+
+it-fails : check usual (neg (whole 3) ∷ []) above ≡ false
+unfolding computing
+it-fails = refl

@@ -9,7 +9,6 @@ ghost use mathlib.Core.List.{[]};
 ghost use lib.ListN.{length};
 ghost use Rattle.constraint.specs.Records.{constraintAt};
 ghost use Rattle.constraint.specs.Starts.{Ready};
-ghost use Rattle.point.specs.Lent.{Lent};
 ghost use Rattle.point.specs.Check.{check};
 ghost use Rattle.interval.specs.Interval.{_‥_};
 ghost use Rattle.interval.specs.Boxes.{boxesOf};

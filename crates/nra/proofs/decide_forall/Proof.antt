@@ -1,5 +1,5 @@
 -- `nra::decide_forall` meets its contract. Assumes nothing.
-use mathlib.Core.Path.{refl, sym, _∙_}
+use mathlib.Core.Path.{refl}
 use Rattle.settings.specs.declared.Settings.{Settings}
 use Rattle.constraint.specs.Constraint.{Constraint}
 use Rattle.file.specs.FileLaws.{some-given, given-ready}

@@ -1,6 +1,4 @@
 -- `nra::decision_refusal` meets its contract. Assumes nothing.
-use mathlib.Core.Path.{refl, sym, ap, _∙_}
-use Rattle.nra.specs.Deciding.{rangeRefusal}
 use Rattle.nra.proofs.Calling.{refused-records, refused-range, accepted-range}
 use borrow.Author.Needs.{needs}
 use Rattle.nra.proofs.decision_refusal.Statement.{statement}

@@ -12,7 +12,7 @@ use lib.Seq.{length-take-le}
 use Rattle.tree.specs.Refusal.{_unless_}
 use Rattle.tree.specs.RefusalLaws.{none-both, none-unless}
 use Rattle.nra.specs.declared.decide.Decided.{Decided}
-use Rattle.eml.specs.Decided.{Left, verdictNumber, decisionNumber, decided, written, deciding}
+use Rattle.eml.specs.Decided.{verdictNumber, decisionNumber, decided, written, deciding}
 use Rattle.eml.proofs.deciding.write_decided.Statement.{statement}
 use Rattle.eml.proofs.deciding.write_decided.Tie as tie
 

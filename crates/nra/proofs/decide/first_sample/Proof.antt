@@ -1,8 +1,7 @@
 -- `nra::decide::first_sample` meets its contract. Assumes nothing.
-use Prim.Native.Nat.{_-_, _≤_}
+use Prim.Native.Nat.{_-_}
 use mathlib.Core.Path.{_≡_, refl, sym, _∙_}
 use native.Mathlib.Omega.{arith}
-use borrow.Author.Needs.{needs}
 use lib.ListN.{length, drop}
 use Rattle.constraint.specs.Records.{constraintAt}
 use Rattle.point.specs.Check.{check}
