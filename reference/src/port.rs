@@ -1,6 +1,7 @@
 //! The exported functions of the proved port, as safe calls.
 
 use crate::counted::{Answer, Stop};
+use crate::smt::helpers::QuantResult;
 use crate::smt::interval::PropResult;
 
 mod raw {
@@ -153,6 +154,34 @@ mod raw {
             out: *mut u8,
             out_length: usize,
             records: *mut usize,
+        ) -> u8;
+        pub fn eml_decide_forall(
+            nodes: *const u8,
+            nodes_length: usize,
+            constraints: *const u8,
+            constraints_length: usize,
+            var: usize,
+            lo: f64,
+            hi: f64,
+            num_vars: usize,
+            verdict: *mut u8,
+            count: *mut usize,
+            point: *mut f64,
+            room: usize,
+        ) -> u8;
+        pub fn eml_decide_exists(
+            nodes: *const u8,
+            nodes_length: usize,
+            constraints: *const u8,
+            constraints_length: usize,
+            var: usize,
+            lo: f64,
+            hi: f64,
+            num_vars: usize,
+            verdict: *mut u8,
+            count: *mut usize,
+            point: *mut f64,
+            room: usize,
         ) -> u8;
         pub fn eml_interval_is_empty(lo: f64, hi: f64) -> bool;
         pub fn eml_interval_width(lo: f64, hi: f64) -> f64;
@@ -487,6 +516,56 @@ pub fn to_nnf(nodes: &[u8], constraints: &[u8], out: &mut [u8]) -> Result<usize,
     assert_eq!(number == 0, records != usize::MAX);
     refused_unless_zero(number, records)
 }
+
+/// A decision. Its point is what the call wrote to the first places of `point`.
+macro_rules! decision {
+    ($name:ident, $raw:ident) => {
+        pub fn $name(
+            nodes: &[u8],
+            constraints: &[u8],
+            var: usize,
+            (lo, hi): (f64, f64),
+            num_vars: usize,
+            point: &mut [f64],
+        ) -> Result<QuantResult, Refusal> {
+            let (mut verdict, mut count) = (255, usize::MAX);
+            let number = unsafe {
+                raw::$raw(
+                    nodes.as_ptr(),
+                    nodes.len(),
+                    constraints.as_ptr(),
+                    constraints.len(),
+                    var,
+                    lo,
+                    hi,
+                    num_vars,
+                    &mut verdict,
+                    &mut count,
+                    point.as_mut_ptr(),
+                    point.len(),
+                )
+            };
+            if number != 0 {
+                assert_eq!((verdict, count), (255, usize::MAX));
+                return Err(number);
+            }
+            let values = point[..count].to_vec();
+            assert!(values.is_empty() || [1, 2].contains(&verdict));
+            Ok(match verdict {
+                0 => QuantResult::True,
+                1 => QuantResult::TrueWithWitness(values),
+                2 => QuantResult::FalseWithCounterexample {
+                    counterexample: values,
+                },
+                3 => QuantResult::Unknown,
+                other => panic!("verdict {other}"),
+            })
+        }
+    };
+}
+
+decision!(decide_forall, eml_decide_forall);
+decision!(decide_exists, eml_decide_exists);
 
 /// Appends the nodes of ln x to a list of `count` nodes; the number of the last one.
 pub fn canonical_ln(nodes: &mut [u8], count: usize, x: usize) -> Result<usize, Refusal> {

@@ -3,3 +3,4 @@ pub mod Pointed
 pub mod Narrowed
 pub mod Normalised
 pub mod Solving
+pub mod Decided

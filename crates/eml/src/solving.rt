@@ -7,8 +7,8 @@ ghost use lib.Seq.{paste};
 ghost use Rattle.nra.specs.Calls.{solveFile, solveGiven};
 ghost use Rattle.eml.specs.Solving.{places, _leaving_, giving};
 
-// Writes the values of a point to the first places.
-fn write_point(values: [f64; 16], count: usize, point: &mut [f64])
+// Writes the values of a point to the first places; decisions write theirs so too.
+pub fn write_point(values: [f64; 16], count: usize, point: &mut [f64])
     requires { ⌜ (count ≤ length values) × (count ≤ length (now point)) ⌝ }
     ensures { λ _. ⌜ now (point .exit) ≡ paste (now (point .entry)) 0 values count ⌝ }
 {

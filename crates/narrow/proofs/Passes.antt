@@ -1,4 +1,4 @@
--- The rounds of `propagate`: what is left of them, joined to what was done, is the whole. Assumes nothing.
+-- The rounds of `propagate_in_mode`: what is left of them, joined to what was done, is the whole. Assumes nothing.
 use Prim.Native.Nat.{ℕ, suc, _+_, _-_, _≤_, _<_}
 use mathlib.Core.Path.{_≡_, refl, sym, ap, _∙_}
 use mathlib.Core.Bool.{false}
@@ -11,9 +11,9 @@ use Rattle.interval.specs.Boxes.{intervals}
 use Rattle.constraint.specs.Constraint.{Constraint}
 use Rattle.narrow.specs.declared.PropResult.{PropResult}
 use Rattle.narrow.specs.declared.PropResult.the-variants.{Changed, Stable, Conflict}
-use Rattle.narrow.specs.declared.Mode.the-variants.{Written}
+use Rattle.narrow.specs.declared.Mode.{Mode}
 use Rattle.narrow.specs.Narrowing.{Narrowed, _leaving_, worseOf, propagateOnce, again, rounds, propagate}
-use Rattle.narrow.specs.Modes.{isConflict, pass, pass-is}
+use Rattle.narrow.specs.Modes.{inMode, isConflict, pass, pass-is}
 
 -- what was done before a step, and the step
 abbrev joined : PropResult → Narrowed → Narrowed
@@ -48,9 +48,20 @@ worse-changed Changed Stable e = refl
 worse-changed Stable r e = refl
 
 module _ (σ : Settings) (c : Constraint) (lo₀ hi₀ lo hi : List Float) (done : PropResult) (i : ℕ) (p : Going σ c lo₀ hi₀ lo hi done i) where
-  module _ (lo′ hi′ : List Float) (r : PropResult) (h : i < σ .rounds) (e : r leaving intervals lo′ hi′ ≡ pass σ Written c (intervals lo hi)) where
+  pub no-more : σ .rounds ≤ i → done leaving intervals lo hi ≡ propagate σ c (intervals lo₀ hi₀)
+  unfolding rounds
+  no-more h =
+      let n : σ .rounds - i ≡ 0 = omega arith in
+      ap (λ (s : PropResult). s leaving intervals lo hi) (sym (worse-stable done))
+      ∙ ap (λ (k : ℕ). joined done (rounds σ k c (intervals lo hi))) (sym n) ∙ p .left
+
+module _ (σ : Settings) (w : Mode) (d : Constraint) (lo₀ hi₀ lo hi : List Float) (done : PropResult) (i : ℕ) (p : Going σ (inMode w d) lo₀ hi₀ lo hi done i) where
+  abbrev c : Constraint
+  c = inMode w d
+
+  module _ (lo′ hi′ : List Float) (r : PropResult) (h : i < σ .rounds) (e : r leaving intervals lo′ hi′ ≡ pass σ w d (intervals lo hi)) where
     is : (r leaving intervals lo′ hi′) ≡ propagateOnce σ c (intervals lo hi)
-    is = e ∙ pass-is σ c (intervals lo hi)
+    is = e ∙ pass-is σ w d (intervals lo hi)
 
     step : rounds σ (σ .rounds - i) c (intervals lo hi) ≡ again r (intervals lo′ hi′) (rounds σ (σ .rounds - (i + 1)) c)
     unfolding rounds
@@ -83,10 +94,3 @@ module _ (σ : Settings) (c : Constraint) (lo₀ hi₀ lo hi : List Float) (done
           none = refl;
           left = ap (λ (s : PropResult). s leaving y .boxes) (sym (worse-changed done (y .result) (p .none))) ∙ so Changed q;
         }
-
-  pub no-more : σ .rounds ≤ i → done leaving intervals lo hi ≡ propagate σ c (intervals lo₀ hi₀)
-  unfolding rounds
-  no-more h =
-      let n : σ .rounds - i ≡ 0 = omega arith in
-      ap (λ (s : PropResult). s leaving intervals lo hi) (sym (worse-stable done))
-      ∙ ap (λ (k : ℕ). joined done (rounds σ k c (intervals lo hi))) (sym n) ∙ p .left

@@ -27,6 +27,12 @@ relationIn Written rel = rel
 relationIn Normal rel = rel
 relationIn Negated rel = oppositeOf rel
 
+-- the constraint that is narrowed by
+abbrev pub inMode : Mode → Constraint → Constraint
+inMode Written c = c
+inMode Normal c = toNnf c
+inMode Negated c = toNnf (Not c)
+
 abbrev pub isNegated : Mode → Bool
 isNegated Written = false
 isNegated Normal = false
@@ -145,6 +151,8 @@ module _ (σ : Settings) where
     written-any end b hs = refl
     written-any (c ⨾ cs) b hs = ap (λ (x : Narrowed). passAny σ Written cs b (survive hs (x .result) (x .boxes))) (written-is c b) ∙ written-any cs b _
 
-  pub pass-is : (c : Constraint) (b : List Interval) → pass σ Written c b ≡ propagateOnce σ c b
-  unfolding propagateOnce
-  pass-is c b = written-is c b
+  pub pass-is : (w : Mode) (c : Constraint) (b : List Interval) → pass σ w c b ≡ propagateOnce σ (inMode w c) b
+  unfolding propagateOnce toNnf
+  pass-is Written c b = written-is c b
+  pass-is Normal c b = normal-is σ (inner σ) c b
+  pass-is Negated c b = negated-is σ (inner σ) c b

@@ -17,7 +17,7 @@ ghost use Rattle.tree.specs.Nodes.{treeAt, Valid};
 ghost use Rattle.narrow.specs.Narrowing.{_leaving_, worseOf, emlInterval, evalInterval, leftOf, askReal, askOf, fixedAt, narrowVar, backward, targetOf, nudgeVar, nudgeTree, narrowAtom, hulls, survive as surviveOf, tightened, adopt as adoptOf, adoptSurvivors, propagate as propagateOf};
 ghost use Rattle.constraint.specs.Records.{constraintAt, gather};
 ghost use Rattle.constraint.specs.Starts.{upTo, Ready, Taken};
-ghost use Rattle.narrow.specs.Modes.{isNegated, underNot, relationIn, isConflict, survivorsOf, pass, passAll, passAny, passInto, passOne};
+ghost use Rattle.narrow.specs.Modes.{inMode, isNegated, underNot, relationIn, isConflict, survivorsOf, pass, passAll, passAny, passInto, passOne};
 ghost use mathlib.Core.Option.{none};
 ghost use Rattle.narrow.specs.Given.{_leaving_and_, propagateGiven};
 
@@ -674,7 +674,36 @@ fn with_branch(
     survive(before, result, Boxes { lo, hi, count })
 }
 
-// Constraint k, in rounds until nothing changes or a Conflict, at most as many as the settings say.
+// Constraint k in that mode, in rounds until nothing changes or a Conflict, at most as many as the settings say.
+pub fn propagate_in_mode(
+    settings: Settings,
+    mode: Mode,
+    nodes: &[u8],
+    constraints: &[u8],
+    starts: &[usize; 256],
+    k: usize,
+    lo: &mut [f64],
+    hi: &mut [f64],
+) -> PropResult
+    requires { ⌜ Ready (now nodes) (now constraints) (k + 1) (now starts) × (length (now hi) ≡ length (now lo)) × (length (now lo) ≤ 16) ⌝ }
+    ensures { λ x. ⌜ (x leaving intervals (now (lo .exit)) (now (hi .exit))) ≡ propagateOf settings (inMode mode (constraintAt (now (nodes .entry)) (now (constraints .entry)) k)) (intervals (now (lo .entry)) (now (hi .entry))) ⌝ }
+{
+    let most = settings.rounds;
+    let mut done = PropResult::Stable;
+    let mut i: usize = 0;
+    while i < most {
+        let result = propagate_once(settings, mode, nodes, constraints, starts, k, lo, hi);
+        match result {
+            PropResult::Conflict => return PropResult::Conflict,
+            PropResult::Stable => return done,
+            PropResult::Changed => done = PropResult::Changed,
+        }
+        i += 1;
+    }
+    done
+}
+
+// Constraint k as it is written.
 pub fn propagate(
     settings: Settings,
     nodes: &[u8],
@@ -687,28 +716,16 @@ pub fn propagate(
     requires { ⌜ Ready (now nodes) (now constraints) (k + 1) (now starts) × (length (now hi) ≡ length (now lo)) × (length (now lo) ≤ 16) ⌝ }
     ensures { λ x. ⌜ (x leaving intervals (now (lo .exit)) (now (hi .exit))) ≡ propagateOf settings (constraintAt (now (nodes .entry)) (now (constraints .entry)) k) (intervals (now (lo .entry)) (now (hi .entry))) ⌝ }
 {
-    let most = settings.rounds;
-    let mut done = PropResult::Stable;
-    let mut i: usize = 0;
-    while i < most {
-        let result = propagate_once(
-            settings,
-            Mode::Written,
-            nodes,
-            constraints,
-            starts,
-            k,
-            lo,
-            hi,
-        );
-        match result {
-            PropResult::Conflict => return PropResult::Conflict,
-            PropResult::Stable => return done,
-            PropResult::Changed => done = PropResult::Changed,
-        }
-        i += 1;
-    }
-    done
+    propagate_in_mode(
+        settings,
+        Mode::Written,
+        nodes,
+        constraints,
+        starts,
+        k,
+        lo,
+        hi,
+    )
 }
 
 // ---- the call on records and boxes that are given

@@ -1,33 +1,36 @@
 -- The ways out of the public calls, over plain values. Assumes nothing.
-use Prim.Native.Nat.{ℕ, zero, suc, _+_, _-_, _/_}
-use mathlib.Core.Path.{_≡_, refl, sym, _∙_}
-use mathlib.Core.Bool.{Bool, true, false, not}
+use Prim.Native.Nat.{ℕ, zero, suc, _+_, _-_, _/_, _≤_}
+use mathlib.Core.Path.{_≡_, refl, sym, ap, _∙_}
+use mathlib.Core.Bool.{Bool, true, false, not, _&&_}
 use mathlib.Core.List.{List}
 use native.Mathlib.Omega.{arith}
 use borrow.Author.Tests.{not-true, not-false}
-use lib.Ieee.{Float}
+use lib.Dec.{leb}
+use lib.Ieee.{Float, binary64}
 use lib.ListN.{length}
-use Rattle.tree.specs.Refusal.{_or-else_}
+use Rattle.number.specs.Halving.{sound}
+use Rattle.tree.specs.Refusal.{_or-else_, _unless_}
+use Rattle.tree.specs.RefusalLaws.{none-both, or-else-refused}
 use Rattle.settings.specs.Settings.{usual}
 use Rattle.settings.specs.declared.Settings.{Settings}
 use Rattle.interval.specs.declared.Interval.{Interval}
 use Rattle.interval.specs.Boxes.{intervals, areBoxes}
+use Rattle.constraint.specs.Constraint.{Constraint}
 use Rattle.constraint.specs.Records.{constraintAt}
 use Rattle.constraint.specs.Starts.{Ready}
-use Rattle.file.specs.File.{nodesOf, constraintsOf, boundsOf, constraintCount, boundCount, bounds, refusal, Refused, readFile, givenRefusal, readGiven}
+use Rattle.file.specs.File.{nodesOf, constraintsOf, boundsOf, constraintCount, boundCount, bounds, refusal, Read, Refused, Accepted, readFile, givenRefusal, readGiven}
 use Rattle.file.specs.FileLaws.{some-constraint, read-is, last-is, some-given, given-is}
 use Rattle.nra.specs.declared.Solved.{Solved}
 use Rattle.nra.specs.Answers.{problem, solvedOf, refusedWith}
 use Rattle.nra.specs.Calls.{limitRefusal, boxesRefusal, unlessRefused, answeredBy, solveFile, solveGiven}
+use Rattle.nra.specs.declared.decide.Decided.{Decided}
+use Rattle.nra.specs.Deciding.{QuantResult, decidedOf, undecided, rangeRefusal, decidedBy}
+use Rattle.nra.specs.Decisions.{range-few}
 use Rattle.nra.specs.Solver.{Answer, solve}
 
 unless-refused : (q : ℕ) (a : Answer) → (q ≡ 0 → ⊥) → refusedWith q ≡ unlessRefused q a
 unless-refused zero a n = absurd (n refl)
 unless-refused (suc q) a n = refl
-
-first-of : (q r : ℕ) → (q ≡ 0 → ⊥) → q ≡ q or-else r
-first-of zero r n = absurd (n refl)
-first-of (suc q) r n = refl
 
 -- ---- a file
 file-refused : (file : List ℕ) (r : ℕ) → refusal file ≡ r → (r ≡ 0 → ⊥) → readFile file ≡ Refused r
@@ -79,7 +82,7 @@ module _ (nodes b : List ℕ) (lo hi : List Float) (limit : ℕ) (ε : Float) {z
   module _ (accepted : givenRefusal nodes b ≡ 0) {r : ℕ} (limits : r ≡ limitRefusal limit ε) where
     pub refused-limit : (r ≡ 0 → ⊥) → z ≡ refusedWith r → z ≡ solveGiven nodes b lo hi limit ε
     unfolding solveGiven
-    refused-limit n q = rw (given-is nodes b accepted, sym limits, sym (first-of r (boxesRefusal lo hi) n)) (q ∙ unless-refused r _ n)
+    refused-limit n q = rw (given-is nodes b accepted, sym limits, sym (or-else-refused r (boxesRefusal lo hi) n)) (q ∙ unless-refused r _ n)
 
     module _ (within : r ≡ 0) {k : Bool} (boxes : k ≡ areBoxes lo hi) where
       pub refused-boxes : not k ≡ true → z ≡ refusedWith 9 → z ≡ solveGiven nodes b lo hi limit ε
@@ -89,3 +92,39 @@ module _ (nodes b : List ℕ) (lo hi : List Float) (limit : ℕ) (ε : Float) {z
       pub solved-given : {σ : Settings} → not k ≡ false → σ ≡ usual → z ≡ solvedOf (solve σ (problem (constraintAt nodes b (length b / 24 - 1)) (intervals lo hi) ε) limit) → z ≡ solveGiven nodes b lo hi limit ε
       unfolding solveGiven boxesRefusal
       solved-given n u q = rw (given-is nodes b accepted, sym limits ∙ within, sym boxes ∙ not-false k n, sym u) q
+
+-- ---- decisions
+module _ (nodes b : List ℕ) (lo hi : Float) (n : ℕ) where
+  pub refused-records : {q : ℕ} → q ≡ givenRefusal nodes b → (q ≡ 0 → ⊥) → q ≡ givenRefusal nodes b or-else rangeRefusal lo hi n
+  refused-records {q} e k = or-else-refused q (rangeRefusal lo hi n) k ∙ ap (λ (x : ℕ). x or-else rangeRefusal lo hi n) e
+
+  module _ {q : ℕ} (records : q ≡ givenRefusal nodes b) (accepted : q ≡ 0) {s : Bool} (range : s ≡ sound binary64 lo hi) where
+    by-range : {t : Bool} → leb n 16 && s ≡ t → (9 unless t) ≡ givenRefusal nodes b or-else rangeRefusal lo hi n
+    unfolding rangeRefusal
+    by-range e = rw (sym records ∙ accepted, sym range, e)
+
+    pub accepted-range : leb n 16 && s ≡ true → 0 ≡ givenRefusal nodes b or-else rangeRefusal lo hi n
+    accepted-range e = by-range e
+
+    pub refused-range : leb n 16 && s ≡ false → 9 ≡ givenRefusal nodes b or-else rangeRefusal lo hi n
+    refused-range e = by-range e
+
+  module _ {q : ℕ} (tested : q ≡ givenRefusal nodes b or-else rangeRefusal lo hi n) where
+    pub decision-accepted : q ≡ 0 → (givenRefusal nodes b ≡ 0) × (n ≤ 16)
+    decision-accepted e =
+        let w = none-both (givenRefusal nodes b) (rangeRefusal lo hi n) (sym tested ∙ e) in
+        (w .0, range-few lo hi n (w .1))
+
+module _ (nodes b : List ℕ) (lo hi : Float) (n : ℕ) (decide : Settings → Constraint → QuantResult) {z : Decided} {q : ℕ} (tested : q ≡ givenRefusal nodes b or-else rangeRefusal lo hi n) where
+  pub decision-refused : (q ≡ 0 → ⊥) → z ≡ undecided q → z ≡ decidedBy (readGiven nodes b) (rangeRefusal lo hi n) (decide usual)
+  decision-refused k e = e ∙ by (givenRefusal nodes b) (rangeRefusal lo hi n) refl refl tested
+    where
+      by : (g r : ℕ) → givenRefusal nodes b ≡ g → rangeRefusal lo hi n ≡ r → q ≡ g or-else r → undecided q ≡ decidedBy (readGiven nodes b) (rangeRefusal lo hi n) (decide usual)
+      by zero zero p s t = absurd (k t)
+      by zero (suc r) p s t = rw (given-is nodes b p, s, t)
+      by (suc g) r p s t = rw (given-refused nodes b (suc g) p (λ e. omega arith), t)
+
+  pub decision-made : q ≡ 0 → {σ : Settings} → σ ≡ usual → z ≡ decidedOf (decide σ (constraintAt nodes b (length b / 24 - 1))) → z ≡ decidedBy (readGiven nodes b) (rangeRefusal lo hi n) (decide usual)
+  decision-made e u h =
+      let w = none-both (givenRefusal nodes b) (rangeRefusal lo hi n) (sym tested ∙ e) in
+      rw (given-is nodes b (w .0), w .1, sym u) h

@@ -4,3 +4,4 @@ pub mod Steps
 pub mod Answering
 pub mod Tests
 pub mod Calling
+pub mod Sampling

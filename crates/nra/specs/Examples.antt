@@ -1,8 +1,9 @@
--- The starred examples of document 01, "Conditions of acceptance", in its order, as one table; and those of a limit of 0 and 1. Assumes nothing.
+-- The starred examples of document 01, "Conditions of acceptance", in its order, as one table; those of a limit of 0 and 1; and decisions.
+-- Assumes nothing.
 use mathlib.Core.Path.{_≡_, refl}
-use Prim.Native.Nat.{ℕ, _^_}
+use Prim.Native.Nat.{_^_}
 use mathlib.Core.Bool.{true, false}
-use mathlib.Core.List.{List, [], _∷_}
+use mathlib.Core.List.{[], _∷_}
 use lib.Ieee.{Float, neg}
 use Rattle.number.specs.Notation.{bits, whole, decimal, +∞}
 use Rattle.settings.specs.Settings.{usual}
@@ -10,16 +11,18 @@ use Rattle.interval.specs.declared.Interval.{Interval}
 use Rattle.interval.specs.Interval.{_‥_}
 use Rattle.tree.specs.Tree.{Tree}
 use Rattle.constraint.specs.declared.Relation.{Relation}
-use Rattle.constraint.specs.declared.Relation.the-variants.{EqZero, GtZero, GeZero, LtZero, LeZero, NeZero}
+use Rattle.constraint.specs.declared.Relation.the-variants.{EqZero, GtZero, GeZero, NeZero}
 use Rattle.constraint.specs.Constraint.{Constraint, Atom, Not, And, Or, ForAll, end, _⨾_}
 use Rattle.normal.specs.NormalForm.{toNnf}
 use Rattle.point.specs.declared.eval.EvalError.the-variants.{ComplexResult}
 use Rattle.point.specs.declared.eval.Evaluated.the-variants.{Value, Failed}
 use Rattle.point.specs.Eval.{evalReal}
+use Rattle.point.specs.Check.{check}
 use Rattle.narrow.specs.declared.PropResult.the-variants.{Changed, Stable, Conflict}
 use Rattle.narrow.specs.Narrowing.{Narrowed, _leaving_, propagate}
-use Rattle.nra.specs.Solver.{Problem, Stop, limit, unsatisfied, Answer, assignment, failed, State, Progress, Stopped, Going, begin, halve, solve}
+use Rattle.nra.specs.Solver.{Problem, limit, unsatisfied, assignment, failed, Progress, Stopped, Going, begin, halve, solve}
 use Rattle.nra.specs.Answers.{problem}
+use Rattle.nra.specs.Deciding.{QuantResult, True, TrueWithWitness, FalseWithCounterexample, Unknown, decideForall, decideExists}
 use Rattle.nra.specs.Computing.{computing}
 
 -- narrowing by one constraint in one box
@@ -110,3 +113,49 @@ exact-1 = refl
 printed : solve usual (within (is GtZero) (whole 1 ‥ whole 3)) 10_000 ≡ assignment (whole 2 ∷ []) false 0
 unfolding computing
 printed = refl
+
+-- ---- decisions about variable 0 of one
+abbrev forAll : Constraint → Float → Float → QuantResult
+forAll c lo hi = decideForall usual 0 lo hi c 1
+
+abbrev exists : Constraint → Float → Float → QuantResult
+exists c lo hi = decideExists usual 0 lo hi c 1
+
+positive : forAll (is GtZero) (whole 1) (whole 3) ≡ True
+unfolding computing
+positive = refl
+
+not-positive : forAll (is GtZero) (neg (whole 1)) (whole 3) ≡ FalseWithCounterexample (neg (whole 1) ∷ [])
+unfolding computing
+not-positive = refl
+
+-- zero lies in the range, and no sample is zero
+not-seen : forAll (is NeZero) (neg (whole 1)) (whole 2) ≡ Unknown
+unfolding computing
+not-seen = refl
+
+witness : exists (is GtZero) (whole 1) (whole 3) ≡ TrueWithWitness (whole 2 ∷ [])
+unfolding computing
+witness = refl
+
+no-witness : exists (is GtZero) (neg (whole 3)) (neg (whole 1)) ≡ Unknown
+unfolding computing
+no-witness = refl
+
+-- a variable beyond the point alters nothing in it
+beyond : decideForall usual 1 (whole 1) (whole 3) (is GtZero) 1 ≡ FalseWithCounterexample (whole 0 ∷ [])
+unfolding computing
+beyond = refl
+
+-- True is no more than a conflict: GtZero(Eml(Var 0, Const 5)) in [-3,3] is True, although it fails at -3. Narrowing does not round its ends outward,
+-- and exp(ln 5) is not 5, so the constant is met by an empty interval.
+abbrev above : Constraint
+above = Atom GtZero (Tree.Eml (Tree.Var 0) (Tree.Const (whole 5)))
+
+true-though : forAll above (neg (whole 3)) (whole 3) ≡ True
+unfolding computing
+true-though = refl
+
+it-fails : check usual (neg (whole 3) ∷ []) above ≡ false
+unfolding computing
+it-fails = refl

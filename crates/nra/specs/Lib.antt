@@ -2,6 +2,8 @@ pub mod Solver
 pub mod Working
 pub mod Answers
 pub mod Calls
+pub mod Deciding
+pub mod Decisions
 pub mod Limit
 pub mod Passing
 pub mod InBox

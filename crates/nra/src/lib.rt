@@ -1,4 +1,7 @@
 // Halving (document 01; nra.rs): boxes are narrowed and halved until a point passes the check.
+pub mod decide; // helpers.rs: decide_forall and decide_exists
+
+use decide::Decided;
 use interval::Boxes;
 use interval::Interval;
 use narrow::PropResult;
@@ -11,6 +14,7 @@ ghost use mathlib.Core.List.{List, []};
 ghost use lib.ListN.{length, set};
 ghost use lib.Ieee.{Float};
 ghost use Rattle.number.specs.Sign.{absOf};
+ghost use Rattle.tree.specs.Refusal.{_or-else_};
 ghost use Rattle.constraint.specs.Records.{constraintAt};
 ghost use Rattle.constraint.specs.Starts.{Ready};
 ghost use Rattle.point.specs.Lent.{Lent};
@@ -22,9 +26,10 @@ ghost use Rattle.interval.specs.declared.Interval.{Interval as Box};
 ghost use Rattle.nra.specs.Working.{Working};
 ghost use Rattle.nra.specs.Answers.{problem, progressOf, goes, pointless as pointlessOf, refusedWith, solvedOf, stopNumber, tried};
 ghost use Rattle.settings.specs.Settings.{usual};
-ghost use Rattle.file.specs.File.{nodesOf, constraintsOf, boundsOf, constraintCount, boundCount, bounds, refusal, readFile};
-ghost use Rattle.file.specs.Code.{Laid};
+ghost use Rattle.file.specs.File.{nodesOf, constraintsOf, boundsOf, constraintCount, boundCount, bounds, refusal, givenRefusal, readFile};
+ghost use Rattle.file.specs.Code.{Laid, givenStarts};
 ghost use Rattle.nra.specs.Calls.{limitRefusal, answeredBy, solveFile, solveGiven};
+ghost use Rattle.nra.specs.Deciding.{rangeRefusal, decideForallGiven, decideExistsGiven};
 ghost use Rattle.nra.specs.Solver as Solver;
 ghost use Rattle.nra.specs.Solver.{assignment, Stopped};
 
@@ -851,5 +856,88 @@ pub fn solve(
         tolerance,
         lo,
         hi,
+    )
+}
+
+// Of a decision: the records' refusal, then 9 for over 16 variables or an unsound range.
+fn decision_refusal(
+    nodes: &[u8],
+    constraints: &[u8],
+    lo: f64,
+    hi: f64,
+    num_vars: usize,
+    starts: &mut [usize; 256],
+) -> u8
+    requires { ⌜ length (now starts) ≡ 256 ⌝ }
+    ensures { λ r. ⌜ r ≡ (givenRefusal (now (nodes .entry)) (now (constraints .entry)) or-else rangeRefusal lo hi «num_vars») ⌝ }
+    ensures { λ _. ⌜ now (starts .exit) ≡ givenStarts (now (nodes .entry)) (now (constraints .entry)) (now (starts .entry)) ⌝ }
+{
+    let r = file::test_given(nodes, constraints, starts);
+    if r != 0 {
+        return r;
+    }
+    if (num_vars <= 16) & number::is_sound(lo, hi) {
+        return 0;
+    }
+    9
+}
+
+// Whether the constraint holds for every value of variable `var` in [lo, hi].
+pub fn decide_forall(
+    nodes: &[u8],
+    constraints: &[u8],
+    var: usize,
+    lo: f64,
+    hi: f64,
+    num_vars: usize,
+) -> Decided
+    ensures { λ r. ⌜ r ≡ decideForallGiven (now (nodes .entry)) (now (constraints .entry)) var lo hi «num_vars» ⌝ }
+{
+    let mut starts = [0usize; 256];
+    let r = decision_refusal(nodes, constraints, lo, hi, num_vars, &mut starts);
+    if r != 0 {
+        return decide::refused(r);
+    }
+    let k = constraints.len() / 24 - 1;
+    decide::decide_forall(
+        nodes,
+        constraints,
+        &starts,
+        k,
+        settings::usual(),
+        var,
+        lo,
+        hi,
+        num_vars,
+    )
+}
+
+// Whether it holds for some value.
+pub fn decide_exists(
+    nodes: &[u8],
+    constraints: &[u8],
+    var: usize,
+    lo: f64,
+    hi: f64,
+    num_vars: usize,
+) -> Decided
+    ensures { λ r. ⌜ r ≡ decideExistsGiven (now (nodes .entry)) (now (constraints .entry)) var lo hi «num_vars» ⌝ }
+{
+    let mut starts = [0usize; 256];
+    let r = decision_refusal(nodes, constraints, lo, hi, num_vars, &mut starts);
+    if r != 0 {
+        return decide::refused(r);
+    }
+    let k = constraints.len() / 24 - 1;
+    decide::decide_exists(
+        nodes,
+        constraints,
+        &starts,
+        k,
+        settings::usual(),
+        var,
+        lo,
+        hi,
+        num_vars,
     )
 }
