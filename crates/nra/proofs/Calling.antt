@@ -25,7 +25,7 @@ use Rattle.nra.specs.Answers.{problem, solvedOf, refusedWith}
 use Rattle.nra.specs.Calls.{limitRefusal, boxesRefusal, unlessRefused, answeredBy, solveFile, solveGiven}
 use Rattle.nra.specs.declared.decide.Decided.{Decided}
 use Rattle.nra.specs.Deciding.{QuantResult, decidedOf, undecided, rangeRefusal, decidedBy}
-use Rattle.nra.specs.Decisions.{range-few}
+use Rattle.nra.specs.Decisions.{range-few, given-refused}
 use Rattle.nra.specs.Solver.{Answer, solve}
 
 unless-refused : (q : ℕ) (a : Answer) → (q ≡ 0 → ⊥) → refusedWith q ≡ unlessRefused q a
@@ -68,11 +68,6 @@ pub last-given : (nodes b : List ℕ) → givenRefusal nodes b ≡ 0 → (starts
 last-given nodes b e starts r =
     let m : length b / 24 - 1 + 1 ≡ length b / 24 = omega (arith, some-given nodes b e) in
     rw m r
-
-given-refused : (nodes b : List ℕ) (r : ℕ) → givenRefusal nodes b ≡ r → (r ≡ 0 → ⊥) → readGiven nodes b ≡ Refused r
-unfolding readGiven
-given-refused nodes b zero e n = absurd (n refl)
-given-refused nodes b (suc r) e n = rw e
 
 module _ (nodes b : List ℕ) (lo hi : List Float) (limit : ℕ) (ε : Float) {z : Solved} where
   pub refused-given : {r : ℕ} → r ≡ givenRefusal nodes b → (r ≡ 0 → ⊥) → z ≡ refusedWith r → z ≡ solveGiven nodes b lo hi limit ε

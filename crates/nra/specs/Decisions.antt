@@ -1,13 +1,14 @@
--- What a decision tells: a witness passes the check, a counterexample fails it, and True is a conflict of the negation, no more; a point
--- has at most as many values as there are variables. Theorems about the definitions. Assumes nothing.
-use mathlib.Core.Path.{_≡_, refl, ap, _∙_, subst}
-use Prim.Native.Nat.{ℕ, zero, suc, _≤_}
+-- What a decision tells: a witness passes the check, a counterexample fails it, True is a conflict of the negation, no more, and a point has
+-- at most as many values as there are variables. Of the definitions first, then of what the calls return. Assumes nothing.
+use mathlib.Core.Path.{_≡_, refl, sym, ap, _∙_, subst}
+use Prim.Native.Nat.{ℕ, zero, suc, _-_, _/_, _≤_}
 use mathlib.Core.Bool.{Bool, true, false, not, _&&_}
 use mathlib.Core.List.{List, [], _∷_}
 use native.Mathlib.Omega.{arith}
 use borrow.Author.Tests.{leb-true, not-true}
 use lib.Dec.{leb}
-use lib.ListN.{length, replicate, length-set, length-replicate}
+use lib.ListN.{length, take, replicate, length-set, length-replicate}
+use lib.Seq.{take-append-seam}
 use lib.Ieee.{Float, binary64}
 use Rattle.number.specs.Notation.{if_then_else_, whole}
 use Rattle.number.specs.Halving.{sound}
@@ -16,8 +17,10 @@ use Rattle.settings.specs.Settings.{usual}
 use Rattle.settings.specs.declared.Settings.{Settings}
 use Rattle.interval.specs.Interval.{_‥_}
 use Rattle.constraint.specs.Constraint.{Constraint, Not}
+use Rattle.constraint.specs.Records.{constraintAt}
 use Rattle.normal.specs.NormalForm.{toNnf}
-use Rattle.file.specs.File.{Read, Refused, Accepted, readGiven}
+use Rattle.file.specs.File.{Read, Refused, Accepted, givenRefusal, readGiven}
+use Rattle.file.specs.FileLaws.{given-is}
 use Rattle.point.specs.Check.{check}
 use Rattle.narrow.specs.declared.PropResult.{PropResult}
 use Rattle.narrow.specs.declared.PropResult.the-variants.{Changed, Stable, Conflict}
@@ -25,7 +28,10 @@ use Rattle.narrow.specs.Narrowing.{propagate}
 use Rattle.narrow.specs.Modes.{isConflict}
 use Rattle.nra.specs.declared.decide.Found.{Found}
 use Rattle.nra.specs.declared.decide.Found.the-variants.{Nowhere, At}
-use Rattle.nra.specs.Deciding.{QuantResult, True, TrueWithWitness, FalseWithCounterexample, pointAt, forallSamples, existsSamples, first, boxesAt, refutes, forallBy, decideForall, existsBy, decideExists, pointOf, decidedOf, rangeRefusal, decidedBy, decideForallGiven, decideExistsGiven}
+use Rattle.nra.specs.declared.decide.Verdict.{Verdict}
+use Rattle.nra.specs.declared.decide.Decided.{Decided}
+use Rattle.nra.specs.Answers.{padded}
+use Rattle.nra.specs.Deciding.{QuantResult, True, TrueWithWitness, FalseWithCounterexample, Unknown, pointAt, forallSamples, existsSamples, first, boxesAt, refutes, forallBy, decideForall, existsBy, decideExists, verdictOf, pointOf, decidedOf, rangeRefusal, decidedBy, decideForallGiven, decideExistsGiven}
 
 pub point-length : (n v : ℕ) (x : Float) → length (pointAt n v x) ≡ n
 unfolding pointAt
@@ -118,3 +124,80 @@ module _ (nodes b : List ℕ) (v : ℕ) (lo hi : Float) (n : ℕ) where
   pub exists-given-values : (decideExistsGiven nodes b v lo hi n .count ≤ n) × (decideExistsGiven nodes b v lo hi n .count ≤ 16)
   unfolding decideExistsGiven
   exists-given-values = given-values lo hi n (λ c. decideExists usual v lo hi c n) (λ c. exists-values usual v lo hi c n) (readGiven nodes b) (rangeRefusal lo hi n) refl
+
+-- ---- what a caller receives
+abbrev pub valuesOf : Decided → List Float
+valuesOf d = take (d .count) (d .point)
+
+values-are : (q : QuantResult) → valuesOf (decidedOf q) ≡ pointOf q
+unfolding decidedOf padded
+values-are q = take-append-seam (pointOf q) (replicate (16 - length (pointOf q)) (whole 0))
+
+only-true : (q : QuantResult) → verdictOf q ≡ Verdict.True → q ≡ True
+only-true True e = refl
+only-true (TrueWithWitness p) e = absurd (let z : _≡_ {A = ℕ} 0 1 = cc in omega arith)
+only-true (FalseWithCounterexample p) e = absurd (let z : _≡_ {A = ℕ} 0 1 = cc in omega arith)
+only-true Unknown e = absurd (let z : _≡_ {A = ℕ} 0 1 = cc in omega arith)
+
+only-witness : (q : QuantResult) → verdictOf q ≡ Verdict.TrueWithWitness → q ≡ TrueWithWitness (pointOf q)
+only-witness True e = absurd (let z : _≡_ {A = ℕ} 0 1 = cc in omega arith)
+only-witness (TrueWithWitness p) e = refl
+only-witness (FalseWithCounterexample p) e = absurd (let z : _≡_ {A = ℕ} 0 1 = cc in omega arith)
+only-witness Unknown e = absurd (let z : _≡_ {A = ℕ} 0 1 = cc in omega arith)
+
+only-counterexample : (q : QuantResult) → verdictOf q ≡ Verdict.FalseWithCounterexample → q ≡ FalseWithCounterexample (pointOf q)
+only-counterexample True e = absurd (let z : _≡_ {A = ℕ} 0 1 = cc in omega arith)
+only-counterexample (TrueWithWitness p) e = absurd (let z : _≡_ {A = ℕ} 0 1 = cc in omega arith)
+only-counterexample (FalseWithCounterexample p) e = refl
+only-counterexample Unknown e = absurd (let z : _≡_ {A = ℕ} 0 1 = cc in omega arith)
+
+pub given-refused : (nodes b : List ℕ) (r : ℕ) → givenRefusal nodes b ≡ r → (r ≡ 0 → ⊥) → readGiven nodes b ≡ Refused r
+unfolding readGiven
+given-refused nodes b zero e n = absurd (n refl)
+given-refused nodes b (suc r) e n = rw e
+
+module _ (nodes b : List ℕ) where
+  abbrev given : Constraint
+  given = constraintAt nodes b (length b / 24 - 1)
+
+  -- only a call that is not refused has a verdict other than Unknown
+  module _ (lo hi : Float) (n : ℕ) (decide : Constraint → QuantResult) where
+    abbrev received : Decided
+    received = decidedBy (readGiven nodes b) (rangeRefusal lo hi n) decide
+
+    not-refused : (w : Verdict) → (Verdict.Unknown ≡ w → ⊥) → received .verdict ≡ w → received ≡ decidedOf (decide given)
+    not-refused w k e = by (givenRefusal nodes b) (rangeRefusal lo hi n) refl refl
+      where
+        by : (g r : ℕ) → givenRefusal nodes b ≡ g → rangeRefusal lo hi n ≡ r → received ≡ decidedOf (decide given)
+        by zero zero p q = rw (given-is nodes b p, q)
+        by zero (suc r) p q = absurd (k (rw (given-is nodes b p, q) at e))
+        by (suc g) r p q = absurd (k (rw (given-refused nodes b (suc g) p (λ z. omega arith)) at e))
+
+  module _ (v : ℕ) (lo hi : Float) (n : ℕ) where
+    abbrev forAll : Constraint → QuantResult
+    forAll c = decideForall usual v lo hi c n
+
+    abbrev exists : Constraint → QuantResult
+    exists c = decideExists usual v lo hi c n
+
+    pub witness-received : decideExistsGiven nodes b v lo hi n .verdict ≡ Verdict.TrueWithWitness → check usual (valuesOf (decideExistsGiven nodes b v lo hi n)) given ≡ true
+    unfolding decideExistsGiven decidedOf
+    witness-received e =
+        let r = not-refused lo hi n exists Verdict.TrueWithWitness (λ k. let z : _≡_ {A = ℕ} 0 1 = cc in omega arith) e in
+        ap (λ (x : Decided). check usual (valuesOf x) given) r
+        ∙ ap (λ (p : List Float). check usual p given) (values-are (exists given))
+        ∙ witness-passes usual v lo hi given n (pointOf (exists given)) (only-witness (exists given) (sym (ap (λ (x : Decided). x .verdict) r) ∙ e))
+
+    pub counterexample-received : decideForallGiven nodes b v lo hi n .verdict ≡ Verdict.FalseWithCounterexample → check usual (valuesOf (decideForallGiven nodes b v lo hi n)) given ≡ false
+    unfolding decideForallGiven decidedOf
+    counterexample-received e =
+        let r = not-refused lo hi n forAll Verdict.FalseWithCounterexample (λ k. let z : _≡_ {A = ℕ} 0 1 = cc in omega arith) e in
+        ap (λ (x : Decided). check usual (valuesOf x) given) r
+        ∙ ap (λ (p : List Float). check usual p given) (values-are (forAll given))
+        ∙ counterexample-fails usual v lo hi given n (pointOf (forAll given)) (only-counterexample (forAll given) (sym (ap (λ (x : Decided). x .verdict) r) ∙ e))
+
+    pub true-received : decideForallGiven nodes b v lo hi n .verdict ≡ Verdict.True → propagate usual (toNnf (Not given)) (boxesAt n v (lo ‥ hi)) .result ≡ Conflict
+    unfolding decideForallGiven decidedOf
+    true-received e =
+        let r = not-refused lo hi n forAll Verdict.True (λ k. let z : _≡_ {A = ℕ} 0 1 = cc in omega arith) e in
+        true-exactly usual v lo hi given n .0 (only-true (forAll given) (sym (ap (λ (x : Decided). x .verdict) r) ∙ e))
