@@ -18,7 +18,7 @@ use Rattle.interval.specs.Boxes.{intervals, areBoxes}
 use Rattle.constraint.specs.Constraint.{Constraint}
 use Rattle.constraint.specs.Records.{constraintAt}
 use Rattle.constraint.specs.Starts.{Ready}
-use Rattle.file.specs.File.{nodesOf, constraintsOf, boundsOf, constraintCount, boundCount, bounds, refusal, Read, Refused, Accepted, readFile, givenRefusal, readGiven}
+use Rattle.file.specs.File.{nodesOf, constraintsOf, boundsOf, constraintCount, boundCount, bounds, refusal, Refused, readFile, givenRefusal, readGiven}
 use Rattle.file.specs.FileLaws.{some-constraint, read-is, last-is, some-given, given-is}
 use Rattle.nra.specs.declared.Solved.{Solved}
 use Rattle.nra.specs.Answers.{problem, solvedOf, refusedWith}

@@ -46,13 +46,22 @@ verdict-number-requires : tie.Need-verdict-number-requires
 verdict-number-requires c κs = search needs
 
 write-point-requires : tie.Need-write-point-requires
-write-point-requires c κs = ?
+write-point-requires c κs =
+    let p₁ = c .before .before .before in
+    let s = p₁ .before .before .before in
+    let a = s .args in
+    (few-values s, omega (arith, s .pre .0, room (a .answer) (a .n) (a .verdict .now) (a .count .now) (a .point .now) (p₁ .before .decision-number .ensures) (p₁ .if1 .left)))
 
 same-length : tie.Need-same-length
 same-length c = search needs
 
 returns-2 : tie.Need-returns-2
-returns-2 c = ?
+returns-2 c =
+    let p₁ = c .before .before in
+    let p₂ = p₁ .before .before .before in
+    let p₃ = p₂ .before in
+    let a = p₃ .before .before .before .args in
+    all-written (a .answer) (a .n) (a .verdict .now) (a .count .now) (a .point .now) (p₃ .before .decision-number .ensures) (p₃ .if1 .left) (p₂ .verdict-number .ensures) (p₁ .write-point .ensures)
 
 pub write-decided-spec : {M : Type 1} → statement M
 write-decided-spec =
