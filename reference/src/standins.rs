@@ -1,7 +1,8 @@
 //! Document 01's stand-ins for library mathematics, written from its text.
 //!
 //! Each operation is rounded once, in the order shown there; no multiplication is fused with an addition. The larger
-//! functions are kept as calls, so that the benchmark compares calls with calls.
+//! functions are kept as calls, so that the benchmark compares calls with calls. The features `platform` and `rounded` put
+//! other exp and ln in their places, for the near-tie in examples/ only.
 
 use std::ops::Sub;
 
@@ -47,6 +48,12 @@ pub fn nearest(x: f64) -> f64 {
 /// e to the power x.
 #[inline(never)]
 pub fn exp(x: f64) -> f64 {
+    if cfg!(feature = "platform") {
+        return x.exp();
+    }
+    if cfg!(feature = "rounded") && x.abs() <= 700.0 {
+        return crate::rounded::exp(x);
+    }
     if x.is_nan() {
         return f64::NAN;
     }
@@ -72,6 +79,9 @@ pub fn exp(x: f64) -> f64 {
 /// The natural logarithm.
 #[inline(never)]
 pub fn ln(x: f64) -> f64 {
+    if cfg!(any(feature = "platform", feature = "rounded")) {
+        return x.ln();
+    }
     if x.is_nan() || x < 0.0 {
         return f64::NAN;
     }

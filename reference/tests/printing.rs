@@ -1,9 +1,8 @@
 //! The printing program against document 01's lines, made from the Rust's answers.
 
-use reference::compare::{hex, say};
-use reference::counted::{self, Answer, Stop};
+use reference::compare::say;
 use reference::generate::{self, Shape};
-use reference::house;
+use reference::printed;
 use reference::splitmix::SplitMix64;
 use std::io::Write;
 use std::process::{Command, Stdio};
@@ -11,7 +10,7 @@ use std::process::{Command, Stdio};
 const PROGRAM: &str = concat!(env!("CARGO_MANIFEST_DIR"), "/../target/bin/eml_solve");
 
 /// What the program prints of a file.
-fn printed(file: &[u8]) -> String {
+fn output(file: &[u8]) -> String {
     output_of(Command::new(PROGRAM), file)
 }
 
@@ -26,36 +25,6 @@ fn output_of(mut program: Command, file: &[u8]) -> String {
     let output = program.wait_with_output().expect("ends");
     assert!(output.status.success());
     String::from_utf8(output.stdout).expect("text")
-}
-
-fn lines_of(answer: &Answer) -> String {
-    let word = match answer.stop {
-        Stop::Assignment => "assignment",
-        Stop::Conflict => "conflict",
-        Stop::Tolerance => "tolerance",
-        Stop::Limit => "limit",
-        Stop::Unsatisfied => "unsatisfied",
-    };
-    let quality = if answer.stop == Stop::Assignment {
-        format!("exact {}", u8::from(answer.exact))
-    } else {
-        format!("best {}", hex(&[answer.residual]))
-    };
-    let mut lines = format!("{word}\n{quality}\nhalvings {}\n", answer.halvings);
-    for (i, &x) in answer.point.iter().enumerate() {
-        lines += &format!("v{i} {}\n", hex(&[x]));
-    }
-    lines
-}
-
-fn expected(file: &[u8]) -> String {
-    match house::read_file(file) {
-        Err(number) => format!("refused {number}\n"),
-        Ok(problem) => {
-            let answer = counted::solve(&problem.constraint, &problem.bounds, 10_000, 1e-8);
-            lines_of(&answer)
-        }
-    }
 }
 
 /// A sound file of any size, a damaged one, or one that is longer than it says.
@@ -80,8 +49,8 @@ fn lines() {
     let (mut refused, mut assigned) = (0_u64, 0_u64);
     for _ in 0..1_200 {
         let file = file(&mut rng);
-        let theirs = expected(&file);
-        assert_eq!(printed(&file), theirs, "{file:?}");
+        let theirs = printed::lines(&file);
+        assert_eq!(output(&file), theirs, "{file:?}");
         refused += u64::from(theirs.starts_with("refused"));
         assigned += u64::from(theirs.starts_with("assignment"));
     }
@@ -98,7 +67,27 @@ fn the_largest_file() {
     assert_eq!(file.len(), 22_816);
     let mut shell = Command::new("sh");
     shell.args(["-c", &format!("ulimit -s 512 && exec '{PROGRAM}'")]);
-    assert_eq!(output_of(shell, &file), expected(&file));
+    assert_eq!(output_of(shell, &file), printed::lines(&file));
+}
+
+/// The house files in examples/ and the lines beside them.
+#[test]
+fn the_examples() {
+    let folder = concat!(env!("CARGO_MANIFEST_DIR"), "/../examples");
+    let entries = std::fs::read_dir(folder).expect("a folder");
+    let paths = entries.map(|entry| entry.expect("an entry").path());
+    let mut count = 0;
+    for path in paths.filter(|path| path.extension().is_some_and(|e| e == "emlq")) {
+        let file = std::fs::read(&path).expect("a file");
+        let lines = std::fs::read_to_string(path.with_extension("txt")).expect("its lines");
+        assert_eq!(output(&file), lines, "{path:?}");
+        assert_eq!(printed::lines(&file), lines, "{path:?}");
+        count += 1;
+    }
+    say(&format!(
+        "examples: the lines of {count} files compared, all equal"
+    ));
+    assert!(count >= 5);
 }
 
 /// The example of document 01, which the README shows.
@@ -107,6 +96,5 @@ fn the_first_example() {
     let file = include_bytes!("../../examples/positive.emlq");
     assert_eq!(file.len(), 88);
     let lines = "assignment\nexact 0\nhalvings 0\nv0 4000000000000000\n";
-    assert_eq!(printed(file), lines);
-    assert_eq!(expected(file), lines);
+    assert_eq!(output(file), lines);
 }
