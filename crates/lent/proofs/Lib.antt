@@ -1,0 +1,5 @@
+pub mod Copying
+pub mod Walk
+pub mod Rules
+pub mod Rows
+pub mod Lending

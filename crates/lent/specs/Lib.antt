@@ -1,0 +1,4 @@
+pub mod Lent
+pub mod Copies
+pub mod Lengths
+pub mod Promise
