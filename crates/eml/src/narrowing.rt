@@ -1,9 +1,11 @@
-// Narrowing, on records and boxes as two lists of ends.
+// Narrowing, on records and boxes as two lists of ends, or as a list of intervals.
+use interval::Interval;
 use narrow::PropResult;
 use narrow::Propagated;
 ghost use mathlib.Core.Path.{_≡_};
 ghost use Rattle.narrow.specs.Given.{propagateGiven};
-ghost use Rattle.eml.specs.Narrowed.{resultNumber, propagatedNumber, resultOr, propagated, propagating};
+ghost use Rattle.lent.specs.Lent.{propagateLent};
+ghost use Rattle.eml.specs.Narrowed.{resultNumber, propagatedNumber, resultOr, propagated, propagating, narrowed, narrowing};
 
 fn result_number(result: PropResult) -> u8
     ensures { λ r. ⌜ r ≡ resultNumber result ⌝ }
@@ -48,4 +50,27 @@ pub extern "C" fn eml_propagate(
     let old = *answer;
     *answer = result_or(x, old);
     propagated_number(x)
+}
+
+// The refusal's number or 0, with the answer's number in the lent place.
+fn put_answer(x: Propagated, answer: &mut u8) -> u8
+    ensures { λ r. ⌜ (r ≡ propagatedNumber x) × (now (answer .exit) ≡ resultOr x (now (answer .entry))) ⌝ }
+{
+    let old = *answer;
+    *answer = result_or(x, old);
+    propagated_number(x)
+}
+
+// The same on the caller's own list of intervals.
+#[no_mangle]
+pub extern "C" fn eml_propagate_intervals(
+    nodes: &[u8],
+    constraints: &[u8],
+    boxes: &mut [Interval],
+    answer: &mut u8,
+) -> u8
+    ensures { λ r. ⌜ narrowed r (now (answer .exit)) (now (boxes .exit)) ≡ narrowing (propagateLent (now (nodes .entry)) (now (constraints .entry)) (now (boxes .entry))) (now (answer .entry)) ⌝ }
+{
+    let x = lent::propagate(nodes, constraints, boxes);
+    put_answer(x, answer)
 }

@@ -6,7 +6,7 @@ use mathlib.Core.List.{List, [], _∷_, _++_}
 use native.Mathlib.Nat.{le-of-suc-le-suc, not-suc-le-zero}
 use native.Mathlib.Omega.{arith}
 use borrow.Author.Tests.{ltb-true, ltb-false, lt-ltb, le-ltb, lt-leb, eq-eqb}
-use lib.Dec.{T, ltb, leb, eqb}
+use lib.Dec.{T, ltb, leb}
 use lib.Ieee.{Float, nan}
 use lib.ListN.{length, getD, set, take, drop, List·getD-eq-default}
 use lib.Seq.{set-getD, set-out, take-all}
@@ -20,12 +20,12 @@ use Rattle.interval.specs.BoxLaws.{intervals-at, intervals-length}
 use Rattle.constraint.specs.Constraint.{Constraint}
 use Rattle.file.specs.File.{Read, readBy, givenRefusal, readGiven}
 use Rattle.narrow.specs.declared.Propagated.{Propagated}
-use Rattle.narrow.specs.Narrowing.{Narrowed as Step, propagate}
+use Rattle.narrow.specs.Narrowing.{propagate}
 use Rattle.narrow.specs.Given as Given
 use Rattle.narrow.specs.Given.{_leaving_and_, lows, highs, propagateGiven}
 use Rattle.lent.specs.Lent.{Outcome, _leaving_, inBoxes, byRecords, propagateLent}
 use Rattle.lent.specs.Lengths.{propagate-length}
-use Rattle.lent.specs.Copies.{over, blankOf, putAt, loadOf, firstOr9, tooMany, laid, narrowBy, narrowBoxes, isRefusal}
+use Rattle.lent.specs.Copies.{over, blankOf, putOf, loadOf, firstOr9, tooMany, laid, narrowBoxes, isRefusal}
 use Rattle.lent.specs.declared.Narrowed.{Narrowed}
 
 -- ---- one list over another
@@ -110,18 +110,18 @@ none = nan ‥ nan
 module _ (ys : List Interval) where
   abbrev pub loadedTo : ℕ → Boxes
   loadedTo zero = blankOf (length ys)
-  loadedTo (suc i) = putAt (loadedTo i) i (getD ys i none)
+  loadedTo (suc i) = putOf (loadedTo i) i (getD ys i none)
 
   abbrev sofar : ℕ → Boxes
   sofar i = record { lo = over (take i (lows ys)) (blankOf (length ys) .lo); hi = over (take i (highs ys)) (blankOf (length ys) .hi); count = blankOf (length ys) .count }
 
   loaded-to : (i : ℕ) → i ≤ length ys → loadedTo i ≡ sofar i
-  unfolding putAt
+  unfolding putOf
   loaded-to zero h = refl
   loaded-to (suc i) h =
       let x : set (sofar i .lo) i (getD ys i none .lo) ≡ sofar (suc i) .lo = rw (← lows-at ys i none) (over-more (lows ys) _ i nan (omega (arith, lows-length ys))) in
       let y : set (sofar i .hi) i (getD ys i none .hi) ≡ sofar (suc i) .hi = rw (← highs-at ys i none) (over-more (highs ys) _ i nan (omega (arith, highs-length ys))) in
-      ap (λ (s : Boxes). putAt s i (getD ys i none)) (loaded-to i (omega arith))
+      ap (λ (s : Boxes). putOf s i (getD ys i none)) (loaded-to i (omega arith))
       ∙ ap₂ (λ (a b : List Float). record { lo = a; hi = b; count = blankOf (length ys) .count }) x y
 
   pub loaded : loadedTo (length ys) ≡ loadOf ys
@@ -132,8 +132,8 @@ module _ (ys : List Interval) where
 
 -- ---- `put` and `get` past the 16 places
 module _ (s : Boxes) (p : length (s .lo) ≡ 16) (q : length (s .hi) ≡ 16) where
-  pub put-past : (i : ℕ) (v : Interval) → 16 ≤ i → s ≡ putAt s i v
-  unfolding putAt
+  pub put-past : (i : ℕ) (v : Interval) → 16 ≤ i → s ≡ putOf s i v
+  unfolding putOf
   put-past i v h =
       ap₂ (λ (a b : List Float). record { lo = a; hi = b; count = s .count }) (sym (set-out (s .lo) i (v .lo) (omega arith))) (sym (set-out (s .hi) i (v .hi) (omega arith)))
 

@@ -22,8 +22,8 @@ over (x ∷ xs) (y ∷ ys) = x ∷ over xs ys
 unfoldable pub blankOf : ℕ → Boxes
 blankOf n = record { lo = replicate 16 (ofBits binary64 0); hi = replicate 16 (ofBits binary64 0); count = n }
 
-unfoldable pub putAt : Boxes → ℕ → Interval → Boxes
-putAt s i v = record { lo = set (s .lo) i (v .lo); hi = set (s .hi) i (v .hi); count = s .count }
+unfoldable pub putOf : Boxes → ℕ → Interval → Boxes
+putOf s i v = record { lo = set (s .lo) i (v .lo); hi = set (s .hi) i (v .hi); count = s .count }
 
 -- the boxes of a list: as many as there are places
 unfoldable pub loadOf : List Interval → Boxes

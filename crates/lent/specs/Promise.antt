@@ -14,7 +14,7 @@ use Rattle.interval.specs.Inside.{Ends, isSound, Sound, Each, EachInside}
 use Rattle.tree.specs.RefusalLaws.{both}
 use Rattle.constraint.specs.Constraint.{Constraint}
 use Rattle.constraint.specs.Records.{constraintAt}
-use Rattle.file.specs.File.{Read, readBy, givenRefusal, readGiven}
+use Rattle.file.specs.File.{Read, givenRefusal, readGiven}
 use Rattle.file.specs.FileLaws.{given-is}
 use Rattle.narrow.specs.declared.Propagated.{Propagated}
 use Rattle.narrow.specs.Held.{ConstraintHeld, constraint-held}

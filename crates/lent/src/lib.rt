@@ -7,7 +7,7 @@ ghost use mathlib.Core.Path.{_≡_};
 ghost use lib.ListN.{getD, set};
 ghost use Rattle.interval.specs.Boxes.{intervals};
 ghost use Rattle.lent.specs.Lent.{_leaving_, propagateLent};
-ghost use Rattle.lent.specs.Copies.{over, blankOf, putAt, loadOf, tooMany, narrowBoxes, isRefusal};
+ghost use Rattle.lent.specs.Copies.{over, blankOf, putOf, loadOf, tooMany, narrowBoxes, isRefusal};
 
 // ---- the list and boxes by value
 
@@ -23,7 +23,7 @@ fn blank(count: usize) -> Boxes
 
 // There are 16 places.
 fn put(boxes: Boxes, i: usize, v: Interval) -> Boxes
-    ensures { λ r. ⌜ r ≡ putAt boxes i v ⌝ }
+    ensures { λ r. ⌜ r ≡ putOf boxes i v ⌝ }
 {
     let mut out = boxes;
     if i < 16 {

@@ -1,11 +1,11 @@
 -- `lent::load` meets its contract: a walk of its MIR, by hand. The loop's invariant: s holds the first i intervals. In each turn the slice is looked into, element i is copied out, and `put` is called.
 -- Assumes nothing.
-use Rattle.lent.proofs.Walk.{_≡_, refl, sym, ap, _∙_, ℕ, suc, _<_, _≤_, _^_, _+_, arith, le-antisymm, lt-of-le-of-lt, add-one, zero-le, Bool, List, [], _∷_, length, getD, T, ltb, ltb→lt, nltb→le, lit<, URA, fullShare, Ty, named, imm, w64, tyInt, tyBool, tyPtr, tyRef, Val, vint, vptr, SProp, ent, emp, via, fst∗, Lft, GName, Share, ftrue, fat, froom, fdies, flft, fres, fshr-bor, Memory, Routine, Heap, Out, Calls, Loops, Env, afterSeq, afterBlock, afterTurn, Wp, atReturn, WpFn, Tables, Atoms, sem, Fun, givenOf, tables, tablesOf, Sq, runs, anyQ, atRet, Given, Item, ‵, _⊛_, ⋆, _$_, _∵_, !, qed, by, move, keep, drop, split, join, rewrite, fsplit, fjoin, suffices, frame, done, whole, sub, look-in, look, look-raw, init, store, forget, stop, hop, fld, from, load, lit, of-opd, bin, assigns, assigns-last, and-then, no-more, land, first, blocks, exec, Below, again, loops, returns, enter, alloc1, alloc0, params1, pass1, pass0, free1, free0, FmC, fmOf, WpFn-mono, yes, owns, pureI, Is, shows, uint-makes, RefT, sliceTy, sliceVal, ShrSlice, heres, codedHoleys, Room, at-slice, slice-vals, shr-slice-tells, pointee, shares, arr-parts, place-is, elem-out, elem-back, looks-slice, shuts-slice, plain, usize, owned, nothing, Vals, onEntry, Triple, Contract, Meets, tripleOf, entered, cited, says, Stays, stay-none-slice, walkOf, goes-none-slice, Walks, ends-at, walked, walk-meets}
+use Rattle.lent.proofs.Walk.{_≡_, refl, sym, ap, _∙_, ℕ, suc, _<_, _^_, _+_, arith, le-antisymm, lt-of-le-of-lt, add-one, zero-le, List, [], _∷_, length, getD, T, ltb, ltb→lt, nltb→le, lit<, URA, fullShare, Ty, named, w64, tyPtr, Val, vint, vptr, SProp, ent, emp, via, fst∗, Lft, GName, Share, ftrue, fat, froom, fdies, flft, fres, fshr-bor, Memory, Routine, Heap, Out, Env, afterSeq, afterBlock, afterTurn, Wp, atReturn, WpFn, Tables, Atoms, sem, Fun, givenOf, tables, tablesOf, Sq, runs, anyQ, atRet, Given, Item, ‵, _⊛_, ⋆, _$_, _∵_, !, qed, by, move, keep, drop, split, join, rewrite, fsplit, fjoin, suffices, frame, done, whole, sub, look-in, look, look-raw, init, store, forget, stop, hop, fld, from, load, lit, of-opd, bin, assigns, assigns-last, and-then, no-more, land, first, blocks, exec, Below, again, loops, returns, enter, alloc1, alloc0, params1, pass1, pass0, free1, free0, fmOf, WpFn-mono, yes, owns, pureI, Is, shows, uint-makes, RefT, sliceVal, ShrSlice, heres, codedHoleys, Room, at-slice, slice-vals, shr-slice-tells, shares, arr-parts, place-is, elem-out, elem-back, looks-slice, shuts-slice, plain, usize, owned, nothing, Vals, onEntry, Triple, Contract, Meets, tripleOf, entered, cited, says, Stays, stay-none-slice, walkOf, goes-none-slice, Walks, ends-at, walked, walk-meets}
 use Rattle.lent.proofs.Rules.{tyAt, Count, Closer, closer-wf, next, next-closer, while-test, Fn, calls-val}
-use Rattle.lent.proofs.Rows.{interval, ivals, ival, itells, imakes, icopy, ityped, before-fits, boxes, bvals, bval, btells, bmakes, btyped}
+use Rattle.lent.proofs.Rows.{interval, ivals, itells, imakes, icopy, ityped, before-fits, boxes, bvals, bval, btells, bmakes, btyped}
 use Rattle.interval.specs.declared.Interval.{Interval}
 use Rattle.interval.specs.declared.Boxes.{Boxes}
-use Rattle.lent.specs.Copies.{blankOf, putAt, loadOf}
+use Rattle.lent.specs.Copies.{blankOf, putOf, loadOf}
 use Rattle.lent.proofs.Copying.{none, loadedTo, loaded}
 use Rattle.lent.proofs.blank as blank
 use Rattle.lent.proofs.blank.Symbol as blank-def
@@ -23,12 +23,12 @@ use Rattle.lent.proofs.load.Code as code
 abbrev stayed : Stays (f.ended .signature .params) (f.ended .kept)
 stayed = (stay-none-slice (0 ∷ []) tt (plain (λ _. interval)) yes, tt)
 
--- the contracts that the proof cites
+-- what `blank` and `put` promise
 abbrev Blank : {M : Type 1} (𝓤 : URA M) (H : Heap 𝓤) (A : Atoms 𝓤) → Contract 𝓤
 Blank = Fn (blank.signature .params) (blank.ended .kept) boxes (λ a. blankOf (a .0))
 
 abbrev Put : {M : Type 1} (𝓤 : URA M) (H : Heap 𝓤) (A : Atoms 𝓤) → Contract 𝓤
-Put = Fn (put.signature .params) (put.ended .kept) boxes (λ a. putAt (a .0) (a .1 .0) (a .1 .1 .0))
+Put = Fn (put.signature .params) (put.ended .kept) boxes (λ a. putOf (a .0) (a .1 .0) (a .1 .1 .0))
 
 abbrev τ : ℕ → Ty
 τ k = tyAt (code.function .locals) k
@@ -75,7 +75,7 @@ module _ {M : Type 1} (𝓤 : URA M) (H : Heap 𝓤) (A : Atoms 𝓤) (W : Given
         ∷ ‵ (fat fullShare (τ 4) l₄ 0 (vint w64 n)) ∷ ‵ (fdies (τ 4) l₄) ∷ ‵ (fat fullShare (τ 3) l₃ 0 (vint w64 (j .at))) ∷ ‵ (fdies (τ 3) l₃)
         ∷ ‵ (fat fullShare (τ 2) l₂ 0 (bval (loadedTo ys (j .at)))) ∷ ‵ (fdies (τ 2) l₂) ∷ ‵ (fat fullShare (τ 1) l₁ 0 s) ∷ ‵ (fdies (τ 1) l₁) ∷ ‵ (froom (τ 0) l₀ 0) ∷ ‵ (fdies (τ 0) l₀) ∷ []
 
-    -- a turn's postcondition: it ends nearer to n, or the loop is left and the rest of the body runs
+    -- after a turn: the count is closer to n, or what stands after the loop runs
     abbrev Turned : Count n Known → Out → SProp 𝓤
     Turned j = afterTurn 𝓤 H (Below 𝓤 H A (Closer n Known) At j) (afterBlock 𝓤 H (afterSeq 𝓤 H (Wp 𝓤 H (𝓣 .C) (𝓣 .Λ) En code.Mir.t-5 (atReturn 𝓤 H En Post)) (atReturn 𝓤 H En Post)))
 
@@ -94,7 +94,7 @@ module _ {M : Type 1} (𝓤 : URA M) (H : Heap 𝓤) (A : Atoms 𝓤) (W : Given
         assigns ! (of-opd ! (load ! (from ! (hop ! (look ! 8 refl) (stop !))) (look-raw ! 0 refl))) (from ! (stop !)) (init ! 6 refl (ityped 𝓤 H A W elem g)) $
         elem-back ! interval q′ ys i none (ivals elem) b o (lt less) $ shuts-slice ! tt interval q′ ys b o $
         -- [the token; the fractured borrow; res; _8; …]
-        calls-val (put.signature .params) (put.ended .kept) boxes (λ a. putAt (a .0) (a .1 .0) (a .1 .1 .0)) ! (fmOf 𝓤 H (W .laws) 𝓣) known-put bvals btells (loadedTo ys i, (i, (elem, tt))) (bvals (loadedTo ys i), (vint w64 i ∷ [], (ivals elem, tt))) (args g)
+        calls-val (put.signature .params) (put.ended .kept) boxes (λ a. putOf (a .0) (a .1 .0) (a .1 .1 .0)) ! (fmOf 𝓤 H (W .laws) 𝓣) known-put bvals btells (loadedTo ys i, (i, (elem, tt))) (bvals (loadedTo ys i), (vint w64 i ∷ [], (ivals elem, tt))) (args g)
         (and-then ! (load ! (from ! (stop !)) (look ! 16 refl)) (and-then ! (load ! (from ! (stop !)) (look ! 14 refl)) (and-then ! (load ! (from ! (stop !)) (look ! 4 refl)) (no-more !)))) (λ is.
         land ! (from ! (stop !)) (store ! 15 refl (btyped 𝓤 H A W (loadedTo ys (suc i)) is)) $
         assigns-last ! (bin ! (load ! (from ! (stop !)) (look ! 13 refl)) (lit ! tt) (record { fits = more less })) (from ! (stop !)) (store ! 13 refl (tt, record { fits = more less })) $

@@ -1,5 +1,4 @@
 -- `lent::narrow_boxes` meets its contract. Assumes nothing.
-use Prim.Native.Nat.{_≤_}
 use mathlib.Core.Path.{_≡_, sym, _∙_}
 use native.Mathlib.Omega.{arith}
 use lib.Ieee.{Float}

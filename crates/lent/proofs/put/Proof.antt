@@ -1,7 +1,7 @@
 -- `lent::put` meets its contract. Assumes nothing.
 use mathlib.Core.Path.{refl}
 use lib.Ieee.{Float}
-use Rattle.lent.specs.Copies.{putAt}
+use Rattle.lent.specs.Copies.{putOf}
 use Rattle.lent.proofs.Copying.{put-past}
 use borrow.Author.Needs.{needs, length-unmapped}
 use Rattle.lent.proofs.put.Statement.{statement}
@@ -20,7 +20,7 @@ element-write-out-2 : tie.Need-element-write-out-2
 element-write-out-2 c = search needs
 
 returns : tie.Need-returns
-unfolding putAt
+unfolding putOf
 returns c = refl
 
 returns-2 : tie.Need-returns-2

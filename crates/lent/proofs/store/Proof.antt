@@ -1,6 +1,6 @@
 -- `lent::store` meets its contract: a walk of its MIR, by hand. The loop's invariant: the first i intervals are written. In each turn the borrow is opened, element i is copied out, `get` is called, its result is stored in the element, and the borrow is closed.
 -- Assumes nothing.
-use Rattle.lent.proofs.Walk.{_≡_, refl, sym, ap, subst, ℕ, suc, _<_, _≤_, _^_, _+_, arith, le-antisymm, lt-of-le-of-lt, add-one, zero-le, Bool, List, [], _∷_, length, getD, set, take, length-set, T, ltb, ltb→lt, nltb→le, lit<, URA, fullShare, Ty, named, w64, Val, vunit, vint, vptr, SProp, ent, emp, via, fst∗, Lft, GName, Share, ftrue, fat, froom, fdies, flft, fobs, fbor, Memory, Routine, Heap, Out, Calls, Loops, Env, afterSeq, afterBlock, afterTurn, Wp, atReturn, WpFn, Tables, Atoms, sem, Fun, givenOf, tables, tablesOf, Sq, runs, anyQ, atRet, Given, Item, ‵, _⊛_, ⋆, _$_, _∵_, !, qed, by, move, keep, drop, split, join, rewrite, fsplit, fjoin, feqI, suffices, frame, done, whole, sub, look-in, look, look-raw, init, store, store-raw, forget, stop, hop, fld, from, load, lit, unit-lit, of-opd, bin, assigns, assigns-last, and-then, no-more, land, first, blocks, exec, Below, again, loops, returns, enter, alloc1, alloc0, params1, pass1, pass0, free1, free0, fmOf, WpFn-mono, yes, owns, pureI, Is, shows, uint-makes, RefT, sliceVal, MutSlice, heres, codedHoleys, Room, at-slice, slice-vals, mut-slice-tells, Held, place-is, elem-out, elem-put, opens-slice, closes-slice, plain, usize, owned, nothing, Vals, onEntry, Triple, Contract, Meets, tripleOf, entered, cited, says, Stays, stay-none, stay-slice, walkOf, goes-none, goes-slice, Walks, ends-at, walked, walk-meets}
+use Rattle.lent.proofs.Walk.{_≡_, refl, sym, ap, subst, ℕ, _<_, _^_, _+_, arith, lt-of-le-of-lt, add-one, zero-le, List, [], _∷_, length, getD, set, take, length-set, T, ltb, ltb→lt, nltb→le, lit<, URA, fullShare, Ty, named, w64, Val, vunit, vint, vptr, SProp, ent, emp, via, fst∗, Lft, GName, Share, ftrue, fat, froom, fdies, flft, fobs, fbor, Memory, Routine, Heap, Out, Env, afterSeq, afterBlock, afterTurn, Wp, atReturn, WpFn, Tables, Atoms, sem, Fun, givenOf, tables, tablesOf, Sq, runs, anyQ, atRet, Given, Item, ‵, _⊛_, ⋆, _$_, _∵_, !, qed, by, move, keep, drop, split, join, rewrite, fsplit, fjoin, feqI, suffices, frame, done, whole, sub, look-in, look, look-raw, init, store, store-raw, forget, stop, hop, fld, from, load, lit, unit-lit, of-opd, bin, assigns, assigns-last, and-then, no-more, land, first, blocks, exec, Below, again, loops, returns, enter, alloc1, alloc0, params1, pass1, pass0, free1, free0, fmOf, WpFn-mono, yes, owns, pureI, Is, shows, uint-makes, RefT, sliceVal, MutSlice, heres, codedHoleys, Room, at-slice, slice-vals, mut-slice-tells, Held, place-is, elem-out, elem-put, opens-slice, closes-slice, plain, usize, owned, nothing, Vals, onEntry, Triple, Contract, Meets, tripleOf, entered, cited, says, Stays, stay-none, stay-slice, walkOf, goes-none, goes-slice, Walks, ends-at, walked, walk-meets}
 use Rattle.lent.proofs.Rules.{tyAt, Count, Closer, closer-wf, next, next-closer, while-test, Fn, calls-val}
 use Rattle.lent.proofs.Rows.{interval, ivals, itells, imakes, ityped, before-fits, boxes, bvals, bval, btells, bmakes, btyped}
 use Rattle.interval.specs.declared.Interval.{Interval}
@@ -20,7 +20,7 @@ use Rattle.lent.proofs.store.Code as code
 abbrev stayed : Stays (f.ended .signature .params) (f.ended .kept)
 stayed = (stay-slice (0 ∷ []) tt (plain (λ _. interval)), (stay-none (λ _. boxes) yes, tt))
 
--- the contract that the proof cites
+-- what `get` promises
 abbrev Get : {M : Type 1} (𝓤 : URA M) (H : Heap 𝓤) (A : Atoms 𝓤) → Contract 𝓤
 Get = Fn (get.signature .params) (get.ended .kept) interval (λ a. getD (intervals (a .0 .lo) (a .0 .hi)) (a .1 .0) (a .1 .1 .0))
 
@@ -69,7 +69,7 @@ module _ {M : Type 1} (𝓤 : URA M) (H : Heap 𝓤) (A : Atoms 𝓤) (W : Given
         ∷ ‵ (froom (τ 6) l₆ 0) ∷ ‵ (fdies (τ 6) l₆) ∷ ‵ (froom (τ 5) l₅ 0) ∷ ‵ (fdies (τ 5) l₅) ∷ ‵ (froom (τ 4) l₄ 0) ∷ ‵ (fdies (τ 4) l₄)
         ∷ ‵ (fat fullShare (τ 3) l₃ 0 (vint w64 (j .at))) ∷ ‵ (fdies (τ 3) l₃) ∷ ‵ (fat fullShare (τ 2) l₂ 0 (bval s)) ∷ ‵ (fdies (τ 2) l₂) ∷ ‵ (fat fullShare (τ 1) l₁ 0 sl) ∷ ‵ (fdies (τ 1) l₁) ∷ ‵ (froom (τ 0) l₀ 0) ∷ ‵ (fdies (τ 0) l₀) ∷ []
 
-    -- a turn's postcondition: it ends nearer to n, or the loop is left and the rest of the body runs
+    -- after a turn: the count is closer to n, or what stands after the loop runs
     abbrev Turned : Count n Known → Out → SProp 𝓤
     Turned j = afterTurn 𝓤 H (Below 𝓤 H A (Closer n Known) At j) (afterBlock 𝓤 H (afterSeq 𝓤 H (Wp 𝓤 H (𝓣 .C) (𝓣 .Λ) En code.Mir.t-3 (atReturn 𝓤 H En Post)) (atReturn 𝓤 H En Post)))
 
