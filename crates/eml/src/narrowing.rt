@@ -35,6 +35,15 @@ fn result_or(answer: Propagated, old: u8) -> u8
     }
 }
 
+// The refusal's number or 0, with the answer's number in the lent place.
+fn put_answer(x: Propagated, answer: &mut u8) -> u8
+    ensures { λ r. ⌜ (r ≡ propagatedNumber x) × (now (answer .exit) ≡ resultOr x (now (answer .entry))) ⌝ }
+{
+    let old = *answer;
+    *answer = result_or(x, old);
+    propagated_number(x)
+}
+
 // Narrows the boxes. `answer` is 0 for Changed, 1 Stable, 2 Conflict; a refusal leaves it and the boxes as they were.
 #[no_mangle]
 pub extern "C" fn eml_propagate(
@@ -47,18 +56,7 @@ pub extern "C" fn eml_propagate(
     ensures { λ r. ⌜ propagated r (now (answer .exit)) (now (lo .exit)) (now (hi .exit)) ≡ propagating (propagateGiven (now (nodes .entry)) (now (constraints .entry)) (now (lo .entry)) (now (hi .entry))) (now (answer .entry)) ⌝ }
 {
     let x = narrow::propagate_given(nodes, constraints, lo, hi);
-    let old = *answer;
-    *answer = result_or(x, old);
-    propagated_number(x)
-}
-
-// The refusal's number or 0, with the answer's number in the lent place.
-fn put_answer(x: Propagated, answer: &mut u8) -> u8
-    ensures { λ r. ⌜ (r ≡ propagatedNumber x) × (now (answer .exit) ≡ resultOr x (now (answer .entry))) ⌝ }
-{
-    let old = *answer;
-    *answer = result_or(x, old);
-    propagated_number(x)
+    put_answer(x, answer)
 }
 
 // The same on the caller's own list of intervals.
