@@ -1,4 +1,5 @@
 pub mod Copying
+pub mod Ways
 pub mod Walk
 pub mod Rules
 pub mod Rows

@@ -1,5 +1,5 @@
--- `lent::load` meets its contract: a walk of its MIR, by hand. The loop's invariant: s holds the first i intervals. In each turn the slice is looked into, element i is copied out, and `put` is called.
--- Assumes nothing.
+-- `lent::load` meets its contract: a walk of its MIR, by hand. Before turn i the boxes hold the first i intervals. A turn looks into the slice,
+-- copies element i out and calls `put`. Assumes nothing.
 use Rattle.lent.proofs.Walk.{_≡_, refl, sym, ap, _∙_, ℕ, suc, _<_, _^_, _+_, arith, le-antisymm, lt-of-le-of-lt, add-one, zero-le, List, [], _∷_, length, getD, T, ltb, ltb→lt, nltb→le, lit<, URA, fullShare, Ty, named, w64, tyPtr, Val, vint, vptr, SProp, ent, emp, via, fst∗, Lft, GName, Share, ftrue, fat, froom, fdies, flft, fres, fshr-bor, Memory, Routine, Heap, Out, Env, afterSeq, afterBlock, afterTurn, Wp, atReturn, WpFn, Tables, Atoms, sem, Fun, givenOf, tables, tablesOf, Sq, runs, anyQ, atRet, Given, Item, ‵, _⊛_, ⋆, _$_, _∵_, !, qed, by, move, keep, drop, split, join, rewrite, fsplit, fjoin, suffices, frame, done, whole, sub, look-in, look, look-raw, init, store, forget, stop, hop, fld, from, load, lit, of-opd, bin, assigns, assigns-last, and-then, no-more, land, first, blocks, exec, Below, again, loops, returns, enter, alloc1, alloc0, params1, pass1, pass0, free1, free0, fmOf, WpFn-mono, yes, owns, pureI, Is, shows, uint-makes, RefT, sliceVal, ShrSlice, heres, codedHoleys, Room, at-slice, slice-vals, shr-slice-tells, shares, arr-parts, place-is, elem-out, elem-back, looks-slice, shuts-slice, plain, usize, owned, nothing, Vals, onEntry, Triple, Contract, Meets, tripleOf, entered, cited, says, Stays, stay-none-slice, walkOf, goes-none-slice, Walks, ends-at, walked, walk-meets}
 use Rattle.lent.proofs.Rules.{tyAt, Count, Closer, closer-wf, next, next-closer, while-test, Fn, calls-val}
 use Rattle.lent.proofs.Rows.{interval, ivals, itells, imakes, icopy, ityped, before-fits, boxes, bvals, bval, btells, bmakes, btyped}

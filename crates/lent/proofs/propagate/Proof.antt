@@ -4,7 +4,7 @@ use Rattle.lent.proofs.Walk.{_≡_, refl, ℕ, List, [], _∷_, length,
 use Rattle.lent.proofs.Rules.{FnOf, calls-fn, Fn, calls-val, if-return}
 use Rattle.lent.proofs.Lending.{Meanwhile, lend, regain}
 use Rattle.lent.proofs.Rows.{interval, boxes, bvals, btells, bmakes, btyped, answer, avals, aval, amakes, atyped, narrowed, nvals, ntells, ntyped, answer-of, boxes-of}
-use Rattle.lent.proofs.Copying.{refused, answered}
+use Rattle.lent.proofs.Ways.{refused, answered}
 use Rattle.interval.specs.declared.Interval.{Interval}
 use Rattle.interval.specs.Boxes.{intervals}
 use Rattle.lent.specs.declared.Narrowed.{Narrowed}

@@ -1,5 +1,5 @@
--- `lent::store` meets its contract: a walk of its MIR, by hand. The loop's invariant: the first i intervals are written. In each turn the borrow is opened, element i is copied out, `get` is called, its result is stored in the element, and the borrow is closed.
--- Assumes nothing.
+-- `lent::store` meets its contract: a walk of its MIR, by hand. Before turn i the first i intervals are written. A turn opens the borrow,
+-- copies element i out, calls `get`, writes what it gives into the element and closes the borrow. Assumes nothing.
 use Rattle.lent.proofs.Walk.{_≡_, refl, sym, ap, subst, ℕ, _<_, _^_, _+_, arith, lt-of-le-of-lt, add-one, zero-le, List, [], _∷_, length, getD, set, take, length-set, T, ltb, ltb→lt, nltb→le, lit<, URA, fullShare, Ty, named, w64, Val, vunit, vint, vptr, SProp, ent, emp, via, fst∗, Lft, GName, Share, ftrue, fat, froom, fdies, flft, fobs, fbor, Memory, Routine, Heap, Out, Env, afterSeq, afterBlock, afterTurn, Wp, atReturn, WpFn, Tables, Atoms, sem, Fun, givenOf, tables, tablesOf, Sq, runs, anyQ, atRet, Given, Item, ‵, _⊛_, ⋆, _$_, _∵_, !, qed, by, move, keep, drop, split, join, rewrite, fsplit, fjoin, feqI, suffices, frame, done, whole, sub, look-in, look, look-raw, init, store, store-raw, forget, stop, hop, fld, from, load, lit, unit-lit, of-opd, bin, assigns, assigns-last, and-then, no-more, land, first, blocks, exec, Below, again, loops, returns, enter, alloc1, alloc0, params1, pass1, pass0, free1, free0, fmOf, WpFn-mono, yes, owns, pureI, Is, shows, uint-makes, RefT, sliceVal, MutSlice, heres, codedHoleys, Room, at-slice, slice-vals, mut-slice-tells, Held, place-is, elem-out, elem-put, opens-slice, closes-slice, plain, usize, owned, nothing, Vals, onEntry, Triple, Contract, Meets, tripleOf, entered, cited, says, Stays, stay-none, stay-slice, walkOf, goes-none, goes-slice, Walks, ends-at, walked, walk-meets}
 use Rattle.lent.proofs.Rules.{tyAt, Count, Closer, closer-wf, next, next-closer, while-test, Fn, calls-val}
 use Rattle.lent.proofs.Rows.{interval, ivals, itells, imakes, ityped, before-fits, boxes, bvals, bval, btells, bmakes, btyped}
