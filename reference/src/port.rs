@@ -114,6 +114,15 @@ mod raw {
             hi_length: usize,
             answer: *mut u8,
         ) -> u8;
+        pub fn eml_propagate_intervals(
+            nodes: *const u8,
+            nodes_length: usize,
+            constraints: *const u8,
+            constraints_length: usize,
+            boxes: *mut super::Interval,
+            boxes_length: usize,
+            answer: *mut u8,
+        ) -> u8;
         pub fn eml_solve_file(
             file: *const u8,
             length: usize,
@@ -380,6 +389,40 @@ pub fn propagate(
             &mut answer,
         )
     };
+    propagated(number, answer)
+}
+
+/// An interval as the static library lays it out.
+#[repr(C)]
+#[derive(Clone, Copy, Debug)]
+pub struct Interval {
+    pub lo: f64,
+    pub hi: f64,
+}
+
+/// Narrows the caller's own list of intervals.
+pub fn propagate_intervals(
+    nodes: &[u8],
+    constraints: &[u8],
+    boxes: &mut [Interval],
+) -> Result<PropResult, Refusal> {
+    let mut answer = 255;
+    let number = unsafe {
+        raw::eml_propagate_intervals(
+            nodes.as_ptr(),
+            nodes.len(),
+            constraints.as_ptr(),
+            constraints.len(),
+            boxes.as_mut_ptr(),
+            boxes.len(),
+            &mut answer,
+        )
+    };
+    propagated(number, answer)
+}
+
+/// What a propagation returned and wrote to the place of its answer, which had 255.
+fn propagated(number: Refusal, answer: u8) -> Result<PropResult, Refusal> {
     assert_eq!(number == 0, answer != 255);
     let result = match answer {
         0 => PropResult::Changed,

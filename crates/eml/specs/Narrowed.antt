@@ -1,10 +1,13 @@
--- What the call on boxes returns and leaves: the refusal's number or 0, the answer's number in the lent place, and both lists of ends.
+-- What the calls on boxes return and leave: the refusal's number or 0, the answer's number in the lent place, and both lists of ends or the
+-- list of intervals.
 use Prim.Native.Nat.{ℕ}
 use mathlib.Core.List.{List}
 use lib.Ieee.{Float}
 use Rattle.narrow.specs.declared.PropResult.{PropResult}
 use Rattle.narrow.specs.declared.Propagated.{Propagated}
 use Rattle.narrow.specs.Given.{Outcome, _leaving_and_}
+use Rattle.interval.specs.declared.Interval.{Interval}
+use Rattle.lent.specs.Lent as Lent
 
 abbrev pub resultNumber : PropResult → ℕ
 resultNumber PropResult.Changed = 0
@@ -30,3 +33,15 @@ propagated r a lo hi = record { number = r; answer = a; lo = lo; hi = hi }
 
 abbrev pub propagating : Outcome → ℕ → Left
 propagating (x leaving lo and hi) old = propagated (propagatedNumber x) (resultOr x old) lo hi
+
+-- on a list of intervals
+pub record LeftList : Type 0 where
+  pub number : ℕ
+  pub answer : ℕ
+  pub boxes : List Interval
+
+abbrev pub narrowed : ℕ → ℕ → List Interval → LeftList
+narrowed r a boxes = record { number = r; answer = a; boxes = boxes }
+
+abbrev pub narrowing : Lent.Outcome → ℕ → LeftList
+narrowing x old = narrowed (propagatedNumber (x .answer)) (resultOr (x .answer) old) (x .boxes)

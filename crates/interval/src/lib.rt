@@ -6,6 +6,7 @@ ghost use lib.Ieee.Scale.{finite};
 ghost use Rattle.interval.specs.Interval.{_‥_, isEmpty, width, midpoint, contains, split, intersect, hull, exp, hasLn, ln};
 ghost use Rattle.interval.specs.Boxes.{intervals, boxesOf, missing, starting, anyEmpty, allSound, areBoxes};
 
+#[repr(C)]
 pub struct Interval {
     pub lo: f64,
     pub hi: f64,

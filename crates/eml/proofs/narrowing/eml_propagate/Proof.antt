@@ -9,11 +9,8 @@ use Rattle.eml.proofs.narrowing.eml_propagate.Tie as tie
 propagate-given-requires : tie.Need-propagate-given-requires
 propagate-given-requires c κs = search needs
 
-result-or-requires : tie.Need-result-or-requires
-result-or-requires c κs = search needs
-
-propagated-number-requires : tie.Need-propagated-number-requires
-propagated-number-requires c κs = search needs
+put-answer-requires : tie.Need-put-answer-requires
+put-answer-requires c κs = search needs
 
 same-length : tie.Need-same-length
 same-length c = search needs
@@ -23,16 +20,11 @@ same-length-2 c = search needs
 
 returns : tie.Need-returns
 returns c =
-    let s = c .before .before .before .before .before .before .before .before .before .before .before .before .before .before in
-    rw (c .propagated-number .ensures, c .before .result-or .ensures) (ap (λ (x : Outcome). propagating x (s .args .answer .now)) (c .before .before .before .before .before .before .before .propagate-given .ensures))
+    let p = c .before .before .before .before .before .before in
+    let s = p .before .before .before .before .before .before .before in
+    rw (c .put-answer .ensures .0, c .put-answer .ensures .1) (ap (λ (x : Outcome). propagating x (s .args .answer .now)) (p .propagate-given .ensures))
 
 pub eml-propagate-spec : {M : Type 1} → statement M
 eml-propagate-spec =
     tie.close
-    (tie.spec
-    propagate-given-requires
-    result-or-requires
-    propagated-number-requires
-    same-length
-    same-length-2
-    returns)
+    (tie.spec propagate-given-requires put-answer-requires same-length same-length-2 returns)
