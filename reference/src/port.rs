@@ -221,6 +221,10 @@ mod raw {
         );
         pub fn eml_interval_exp(lo: f64, hi: f64, low: *mut f64, high: *mut f64);
         pub fn eml_interval_ln(lo: f64, hi: f64, low: *mut f64, high: *mut f64);
+        pub fn eml_interval_exp_inv(lo: f64, hi: f64, low: *mut f64, high: *mut f64);
+        pub fn eml_interval_ln_inv(lo: f64, hi: f64, low: *mut f64, high: *mut f64);
+        pub fn eml_interval_new(lo: f64, hi: f64, low: *mut f64, high: *mut f64);
+        pub fn eml_interval_point(v: f64, low: *mut f64, high: *mut f64);
     }
 }
 
@@ -671,6 +675,10 @@ interval_call!(
 interval_call!(interval_hull, eml_interval_hull, (lo, hi, other, another));
 interval_call!(interval_exp, eml_interval_exp, (lo, hi));
 interval_call!(interval_ln, eml_interval_ln, (lo, hi));
+interval_call!(interval_exp_inv, eml_interval_exp_inv, (lo, hi));
+interval_call!(interval_ln_inv, eml_interval_ln_inv, (lo, hi));
+interval_call!(interval_new, eml_interval_new, (lo, hi));
+interval_call!(interval_point, eml_interval_point, (v));
 
 /// The ends of the halves: low, middle, high.
 #[inline]

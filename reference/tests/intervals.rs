@@ -111,6 +111,42 @@ fn methods_of_one_interval() {
 }
 
 #[test]
+fn constructors_and_inverses() {
+    at_two(
+        Comparison::new(
+            "Interval::new",
+            |[lo, hi]| ends(Interval::new(lo, hi)),
+            |[lo, hi]| port::interval_new(lo, hi).into(),
+        ),
+        60,
+    );
+    at_two(
+        Comparison::new(
+            "Interval::point",
+            |[v, _]| ends(Interval::point(v)),
+            |[v, _]| port::interval_point(v).into(),
+        ),
+        61,
+    );
+    at_two(
+        Comparison::new(
+            "Interval::exp_inv",
+            |[lo, hi]| ends(Interval::new(lo, hi).exp_inv()),
+            |[lo, hi]| port::interval_exp_inv(lo, hi).into(),
+        ),
+        62,
+    );
+    at_two(
+        Comparison::new(
+            "Interval::ln_inv",
+            |[lo, hi]| ends(Interval::new(lo, hi).ln_inv()),
+            |[lo, hi]| port::interval_ln_inv(lo, hi).into(),
+        ),
+        63,
+    );
+}
+
+#[test]
 fn methods_of_two() {
     at_four(
         Comparison::new(
