@@ -173,6 +173,12 @@ uint8_t eml_ge(uint8_t *nodes, size_t nodes_length, size_t count, size_t x, size
 
 /* ---- an interval's methods, on its ends; they refuse nothing. An interval as the result is written to `low` and `high`. */
 
+/* [lo, hi]. */
+void eml_interval_new(double lo, double hi, double *low, double *high);
+
+/* [v, v]. */
+void eml_interval_point(double v, double *low, double *high);
+
 /* Whether lo is above hi, or an end is a NaN. */
 bool eml_interval_is_empty(double lo, double hi);
 
@@ -199,6 +205,12 @@ void eml_interval_exp(double lo, double hi, double *low, double *high);
 
 /* ln of both ends; empty, [+inf, -inf], where lo is zero or below, or an end is not finite. */
 void eml_interval_ln(double lo, double hi, double *low, double *high);
+
+/* The arguments whose exp is in [lo, hi]: its ln. */
+void eml_interval_exp_inv(double lo, double hi, double *low, double *high);
+
+/* The arguments whose ln is in [lo, hi]: its exp. */
+void eml_interval_ln_inv(double lo, double hi, double *low, double *high);
 
 /* ---- the mathematics */
 

@@ -114,6 +114,42 @@ fn methods_of_one_interval() {
 }
 
 #[test]
+fn constructors_and_inverses() {
+    at_two(
+        Comparison::new(
+            "Interval::new",
+            |[lo, hi]| ends(Interval::new(lo, hi)),
+            |[lo, hi]| our_ends(eml::Interval::new(lo, hi)),
+        ),
+        60,
+    );
+    at_two(
+        Comparison::new(
+            "Interval::point",
+            |[v, _]| ends(Interval::point(v)),
+            |[v, _]| our_ends(eml::Interval::point(v)),
+        ),
+        61,
+    );
+    at_two(
+        Comparison::new(
+            "Interval::exp_inv",
+            |[lo, hi]| ends(Interval::new(lo, hi).exp_inv()),
+            |[lo, hi]| our_ends(eml::Interval::new(lo, hi).exp_inv()),
+        ),
+        62,
+    );
+    at_two(
+        Comparison::new(
+            "Interval::ln_inv",
+            |[lo, hi]| ends(Interval::new(lo, hi).ln_inv()),
+            |[lo, hi]| our_ends(eml::Interval::new(lo, hi).ln_inv()),
+        ),
+        63,
+    );
+}
+
+#[test]
 fn methods_of_two() {
     at_four(
         Comparison::new(

@@ -26,7 +26,7 @@ pub struct Interval {
 /// The interval that a call writes to two places.
 #[inline]
 fn written(call: impl FnOnce(&mut f64, &mut f64)) -> Interval {
-    let mut i = Interval::point(0.0);
+    let mut i = Interval { lo: 0.0, hi: 0.0 };
     call(&mut i.lo, &mut i.hi);
     i
 }
@@ -35,13 +35,13 @@ impl Interval {
     /// From `lo` to `hi`.
     #[inline]
     pub fn new(lo: f64, hi: f64) -> Self {
-        Self { lo, hi }
+        written(|low, high| raw::eml_interval_new(lo, hi, low, high))
     }
 
-    /// Just `x`.
+    /// Just `v`.
     #[inline]
-    pub fn point(x: f64) -> Self {
-        Self::new(x, x)
+    pub fn point(v: f64) -> Self {
+        written(|low, high| raw::eml_interval_point(v, low, high))
     }
 
     /// Whether `lo` is above `hi`, or an end is a NaN.
@@ -73,7 +73,15 @@ impl Interval {
     pub fn split(self) -> (Self, Self) {
         let (mut low, mut middle, mut high) = (0.0, 0.0, 0.0);
         raw::eml_interval_split(self.lo, self.hi, &mut low, &mut middle, &mut high);
-        (Self::new(low, middle), Self::new(middle, high))
+        let lower = Self {
+            lo: low,
+            hi: middle,
+        };
+        let upper = Self {
+            lo: middle,
+            hi: high,
+        };
+        (lower, upper)
     }
 
     /// What both have; empty where they lie apart.
@@ -102,5 +110,17 @@ impl Interval {
     #[inline]
     pub fn ln(self) -> Self {
         written(|low, high| raw::eml_interval_ln(self.lo, self.hi, low, high))
+    }
+
+    /// The arguments whose exp is in this interval: its [`ln`](Self::ln).
+    #[inline]
+    pub fn exp_inv(self) -> Self {
+        written(|low, high| raw::eml_interval_exp_inv(self.lo, self.hi, low, high))
+    }
+
+    /// The arguments whose ln is in this interval: its [`exp`](Self::exp).
+    #[inline]
+    pub fn ln_inv(self) -> Self {
+        written(|low, high| raw::eml_interval_ln_inv(self.lo, self.hi, low, high))
     }
 }

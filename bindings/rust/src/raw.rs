@@ -21,6 +21,8 @@ unsafe extern "C" {
     pub safe fn eml_next_down(x: f64) -> f64;
     pub safe fn eml_of_bits(b: u64) -> f64;
     pub safe fn eml_bits_of(x: f64) -> u64;
+    pub safe fn eml_interval_new(lo: f64, hi: f64, low: &mut f64, high: &mut f64);
+    pub safe fn eml_interval_point(v: f64, low: &mut f64, high: &mut f64);
     pub safe fn eml_interval_is_empty(lo: f64, hi: f64) -> bool;
     pub safe fn eml_interval_width(lo: f64, hi: f64) -> f64;
     pub safe fn eml_interval_midpoint(lo: f64, hi: f64) -> f64;
@@ -50,6 +52,8 @@ unsafe extern "C" {
     );
     pub safe fn eml_interval_exp(lo: f64, hi: f64, low: &mut f64, high: &mut f64);
     pub safe fn eml_interval_ln(lo: f64, hi: f64, low: &mut f64, high: &mut f64);
+    pub safe fn eml_interval_exp_inv(lo: f64, hi: f64, low: &mut f64, high: &mut f64);
+    pub safe fn eml_interval_ln_inv(lo: f64, hi: f64, low: &mut f64, high: &mut f64);
 
     pub fn eml_read(file: *const u8, length: usize) -> u8;
     pub fn eml_read_records(

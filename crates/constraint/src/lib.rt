@@ -178,12 +178,12 @@ fn nesting_of(
 }
 
 // The first of the elements base..top, or k where there is none.
-fn first_of(a: &[usize; 256], base: usize, top: usize, k: usize) -> usize
-    requires { ⌜ (top ≤ 256) × (length (now a) ≡ 256) ⌝ }
-    ensures { λ r. ⌜ r ≡ getD (drop base (take top (now (a .entry)))) 0 k ⌝ }
+fn first_of(a: &[u8; 256], base: usize, top: usize, k: usize) -> usize
+    requires { ⌜ (top ≤ 256) × (k < 256) × (length (now a) ≡ 256) ⌝ }
+    ensures { λ r. ⌜ (r ≡ getD (drop base (take top (now (a .entry)))) 0 k) × (r < 256) ⌝ }
 {
     if base < top {
-        return a[base];
+        return tree::wide(a[base]) as usize;
     }
     k
 }
@@ -197,7 +197,7 @@ pub fn test_records(count: usize, constraints: &[u8], n: usize, starts: &mut [us
 {
     let mut depth = [0u8; 256];
     let mut quantifiers = [0u8; 256];
-    let mut begins = [0usize; 256];
+    let mut begins = [0u8; 256];
     let mut top: usize = 0;
     let mut k: usize = 0;
     while k < n {
@@ -223,7 +223,7 @@ pub fn test_records(count: usize, constraints: &[u8], n: usize, starts: &mut [us
         let s = first_of(&begins, base, top, k);
         depth[base] = x.depth as u8;
         quantifiers[base] = x.quantifiers as u8;
-        begins[base] = s;
+        begins[base] = s as u8;
         starts[k] = s;
         top = base + 1;
         k += 1;

@@ -116,3 +116,41 @@ pub extern "C" fn eml_interval_ln(lo: f64, hi: f64, low: &mut f64, high: &mut f6
     *low = r.lo;
     *high = r.hi;
 }
+
+#[no_mangle]
+pub extern "C" fn eml_interval_exp_inv(lo: f64, hi: f64, low: &mut f64, high: &mut f64)
+    ensures { λ _. ⌜ (now (low .exit) ‥ now (high .exit)) ≡ ln (lo ‥ hi) ⌝ }
+{
+    let i = Interval { lo, hi };
+    let r = i.exp_inv();
+    *low = r.lo;
+    *high = r.hi;
+}
+
+#[no_mangle]
+pub extern "C" fn eml_interval_ln_inv(lo: f64, hi: f64, low: &mut f64, high: &mut f64)
+    ensures { λ _. ⌜ (now (low .exit) ‥ now (high .exit)) ≡ exp (lo ‥ hi) ⌝ }
+{
+    let i = Interval { lo, hi };
+    let r = i.ln_inv();
+    *low = r.lo;
+    *high = r.hi;
+}
+
+#[no_mangle]
+pub extern "C" fn eml_interval_new(lo: f64, hi: f64, low: &mut f64, high: &mut f64)
+    ensures { λ _. ⌜ (now (low .exit) ‥ now (high .exit)) ≡ (lo ‥ hi) ⌝ }
+{
+    let r = Interval::new(lo, hi);
+    *low = r.lo;
+    *high = r.hi;
+}
+
+#[no_mangle]
+pub extern "C" fn eml_interval_point(v: f64, low: &mut f64, high: &mut f64)
+    ensures { λ _. ⌜ (now (low .exit) ‥ now (high .exit)) ≡ (v ‥ v) ⌝ }
+{
+    let r = Interval::point(v);
+    *low = r.lo;
+    *high = r.hi;
+}

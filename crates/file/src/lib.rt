@@ -1,9 +1,11 @@
 // The house file (document 01, "The file"): its tests, and what an accepted file says.
 use interval::Interval;
+use tree::Tested;
 ghost use mathlib.Core.Path.{_≡_};
-ghost use Prim.Native.Nat.{_+_, _*_, _≤_};
+ghost use Prim.Native.Nat.{_+_, _*_, _/_, _≤_};
 ghost use lib.ListN.{length};
 ghost use Rattle.tree.specs.Refusal.{first};
+ghost use Rattle.tree.specs.Code.{Within};
 ghost use Rattle.file.specs.File.{nodeCount, constraintCount, boundCount, nodesOf, constraintsOf, boundsOf, isHeaded, isLaidOut, boundAt, boundRefusal, refusal, readFile, givenRefusal};
 ghost use Rattle.file.specs.Code.{Laid, bodiesRefusal, bodiesStarts, fileStarts, givenStarts};
 ghost use Rattle.file.specs.Answer.{answered};
@@ -152,24 +154,40 @@ pub fn test_file(file: &[u8], starts: &mut [usize; 256]) -> u8
     test_bodies(file, starts)
 }
 
-// The same of node records and constraint records given without a file.
-pub fn test_given(nodes: &[u8], constraints: &[u8], starts: &mut [usize; 256]) -> u8
+// The same of node records and constraint records given without a file, and the largest size of a node's tree.
+pub fn test_sized(nodes: &[u8], constraints: &[u8], starts: &mut [usize; 256]) -> Tested
     requires { ⌜ length (now starts) ≡ 256 ⌝ }
-    ensures { λ r. ⌜ r ≡ givenRefusal (now (nodes .entry)) (now (constraints .entry)) ⌝ }
+    ensures { λ r. ⌜ r .refusal ≡ givenRefusal (now (nodes .entry)) (now (constraints .entry)) ⌝ }
     ensures { λ _. ⌜ now (starts .exit) ≡ givenStarts (now (nodes .entry)) (now (constraints .entry)) (now (starts .entry)) ⌝ }
+    ensures { λ r. ⌜ (r .refusal ≡ 0 → Within (now (nodes .entry)) (length (now (nodes .entry)) / 16) (r .largest)) ⌝ }
 {
     let x = nodes.len();
     let y = constraints.len();
     let count = x / 16;
     let n = y / 24;
     if (x % 16 == 0) & (count <= 1024) & (y % 24 == 0) & (n <= 256) {
-        let first = tree::test_list(nodes, count);
-        if first != 0 {
-            return first;
+        let t = tree::test_sizes(nodes, count);
+        if t.refusal != 0 {
+            return t;
         }
-        return constraint::test_records(count, constraints, n, starts);
+        let refusal = constraint::test_records(count, constraints, n, starts);
+        let largest = t.largest;
+        return Tested { refusal, largest };
     }
-    2
+    Tested {
+        refusal: 2,
+        largest: 0,
+    }
+}
+
+// Its refusal only.
+pub fn test_given(nodes: &[u8], constraints: &[u8], starts: &mut [usize; 256]) -> u8
+    requires { ⌜ length (now starts) ≡ 256 ⌝ }
+    ensures { λ r. ⌜ r ≡ givenRefusal (now (nodes .entry)) (now (constraints .entry)) ⌝ }
+    ensures { λ _. ⌜ now (starts .exit) ≡ givenStarts (now (nodes .entry)) (now (constraints .entry)) (now (starts .entry)) ⌝ }
+{
+    let t = test_sized(nodes, constraints, starts);
+    t.refusal
 }
 
 // ---- the public calls

@@ -89,10 +89,15 @@ impl Interval {
         )
     }
 
+    // The ends of a point are computed once.
     pub fn exp(self) -> Self
         ensures { λ r. ⌜ r ≡ exp self ⌝ }
     {
-        Self::new(maths::exp(self.lo), maths::exp(self.hi))
+        let low = maths::exp(self.lo);
+        if self.lo == self.hi {
+            return Self::point(low);
+        }
+        Self::new(low, maths::exp(self.hi))
     }
 
     // Whether ln is real on it.
@@ -105,11 +110,14 @@ impl Interval {
     pub fn ln(self) -> Self
         ensures { λ r. ⌜ r ≡ ln self ⌝ }
     {
-        if self.has_ln() {
-            Self::new(maths::ln(self.lo), maths::ln(self.hi))
-        } else {
-            Self::new(1.0 / 0.0, -1.0 / 0.0)
+        if !self.has_ln() {
+            return Self::new(1.0 / 0.0, -1.0 / 0.0);
         }
+        let low = maths::ln(self.lo);
+        if self.lo == self.hi {
+            return Self::point(low);
+        }
+        Self::new(low, maths::ln(self.hi))
     }
 
     // Where exp lies in it.

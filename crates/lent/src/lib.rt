@@ -4,7 +4,7 @@ use interval::Boxes;
 use interval::Interval;
 use narrow::Propagated;
 ghost use mathlib.Core.Path.{_≡_};
-ghost use lib.ListN.{getD, set};
+ghost use lib.ListN.{getD};
 ghost use Rattle.interval.specs.Boxes.{intervals};
 ghost use Rattle.lent.specs.Lent.{_leaving_, propagateLent};
 ghost use Rattle.lent.specs.Copies.{over, blankOf, putOf, loadOf, tooMany, narrowBoxes, isRefusal};

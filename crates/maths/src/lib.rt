@@ -6,13 +6,21 @@ ghost use lib.Dec.{T};
 ghost use lib.Signed.{mag};
 ghost use lib.Ieee.{binary64, ofBits};
 ghost use lib.Ieee.Positive.{positive};
-ghost use Rattle.number.specs.Notation.{whole};
+ghost use Rattle.number.specs.Notation.{whole, integer};
 ghost use Rattle.number.specs.Near.{below};
 ghost use Rattle.maths.specs.Series.{series};
 ghost use Rattle.maths.specs.Exp.{two^, expSum, scaled, expOf};
 ghost use Rattle.maths.specs.Ln.{lnSum, lnAt, mantissa, exponent, lnOf};
 ghost use Rattle.maths.specs.Trig.{turns, rest, quarter, sinStep, cosStep, sinAt, cosAt, turnOf, sinBy, sinOf, cosOf, atanSum, atanAt, atanOf};
 ghost use Rattle.maths.specs.Cplx.{complexExp, logSize, angle, complexLn};
+
+// A whole number that an f64 holds exactly.
+fn float_of(n: i64) -> f64
+    requires { ⌜ mag n < 2 ^ 53 ⌝ }
+    ensures { λ r. ⌜ r ≡ integer n ⌝ }
+{
+    n as f64
+}
 
 // 2^a
 fn two_to(a: i64) -> f64
@@ -56,7 +64,7 @@ pub fn exp(x: f64) -> f64
         return 0.0;
     }
     let k = number::nearest(x * f64::from_bits(0x3FF71547652B82FE));
-    let n = std::num::nearest_i64_to_f64(k);
+    let n = float_of(k);
     let r = (x - n * f64::from_bits(0x3FE62E42FEE00000)) - n * f64::from_bits(0x3DEA39EF35793C76);
     scale(exp_sum(r), k)
 }
@@ -110,9 +118,10 @@ fn ln_sum(w: f64) -> f64
 }
 
 fn ln_at(m: f64, e: i64) -> f64
+    requires { ⌜ mag e < 2 ^ 53 ⌝ }
     ensures { λ r. ⌜ r ≡ lnAt m e ⌝ }
 {
-    let n = std::num::nearest_i64_to_f64(e);
+    let n = float_of(e);
     let f = (m - 1.0) / (m + 1.0);
     let s = ln_sum(f * f);
     n * f64::from_bits(0x3FE62E42FEE00000)
@@ -191,9 +200,10 @@ fn turns_of(b: f64) -> i64
 }
 
 fn rest_of(b: f64, n: i64) -> f64
+    requires { ⌜ mag n < 2 ^ 21 ⌝ }
     ensures { λ r. ⌜ r ≡ rest b n ⌝ }
 {
-    let k = std::num::nearest_i64_to_f64(n);
+    let k = float_of(n);
     (b - k * f64::from_bits(0x3FF921FB54400000)) - k * f64::from_bits(0x3DD0B4611A626331)
 }
 

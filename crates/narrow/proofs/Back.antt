@@ -1,4 +1,4 @@
--- The ways out of `backward_propagate`, over plain values: a proof hands over what its calls ensured. Assumes nothing.
+-- The ways out of the backward steps, over plain values: a proof hands over what its calls ensured. Assumes nothing.
 use Prim.Native.Nat.{ℕ}
 use mathlib.Core.Path.{_≡_, sym}
 use mathlib.Core.Bool.{true, false}
@@ -12,6 +12,7 @@ use Rattle.tree.specs.Tree.{Tree}
 use Rattle.narrow.specs.declared.PropResult.{PropResult}
 use Rattle.narrow.specs.declared.PropResult.the-variants.{Stable, Conflict}
 use Rattle.narrow.specs.declared.Values.the-variants.{Within, Unknown}
+use Rattle.narrow.specs.declared.Demand.{Demand}
 use Rattle.narrow.specs.declared.Demand.the-variants.{Answer, Ask}
 use Rattle.narrow.specs.Narrowing.{Narrowed, _leaving_, worseOf, evalInterval, askOf, demand, askBoth, fixedAt, narrowVar, backward}
 
@@ -36,24 +37,35 @@ module _ (σ : Settings) (out : Interval) (b : List Interval) where
     unfolding backward if_then_else_
     back-var e h = simp (e, n) h
 
-    module _ {l r : Tree} (e : t ≡ Tree.Eml l r) where
-      pub left-unknown : evalInterval b l ≡ Unknown → Stable leaving b ≡ backward σ t out b
-      unfolding backward demand askBoth if_then_else_
-      left-unknown p = simp (e, n, p)
+    pub back-eml : {l r : Tree} {z : Narrowed} → t ≡ Tree.Eml l r → z ≡ askBoth (demand (evalInterval b l) (evalInterval b r) out) (backward σ l) (backward σ r) b
+        → z ≡ backward σ t out b
+    unfolding backward if_then_else_
+    back-eml e h = simp (e, n) h
 
-      module _ {x : Interval} (p : evalInterval b l ≡ Within x) where
-        pub right-unknown : evalInterval b r ≡ Unknown → Stable leaving b ≡ backward σ t out b
-        unfolding backward demand askBoth if_then_else_
-        right-unknown q = simp (e, n, p, q)
+-- ---- an Eml of l and r
+module _ (σ : Settings) (l r : Tree) (b : List Interval) where
+  pub answered : {d : Demand} {w : PropResult} → d ≡ Answer w → w leaving b ≡ askBoth d (backward σ l) (backward σ r) b
+  unfolding askBoth
+  answered h = simp h
 
-        module _ {y : Interval} (q : evalInterval b r ≡ Within y) where
-          pub answered : {w : PropResult} → askOf x y out ≡ Answer w → w leaving b ≡ backward σ t out b
-          unfolding backward demand askBoth if_then_else_
-          answered h = simp (e, n, p, q, h)
+  -- right goes on with left's boxes, whatever left's answer
+  pub asked-both : {d : Demand} {left right : Interval} {first second : Narrowed} {w : PropResult} → d ≡ Ask left right
+      → first ≡ backward σ l left b → second ≡ backward σ r right (first .boxes) → w ≡ worseOf (first .result) (second .result)
+      → w leaving second .boxes ≡ askBoth d (backward σ l) (backward σ r) b
+  unfolding askBoth
+  asked-both h f g k = simp (h, sym f, sym g, k)
 
-          -- right goes on with left's boxes, whatever left's answer
-          pub asked-both : {left right : Interval} {first second : Narrowed} {w : PropResult} → askOf x y out ≡ Ask left right
-              → first ≡ backward σ l left b → second ≡ backward σ r right (first .boxes) → w ≡ worseOf (first .result) (second .result)
-              → w leaving second .boxes ≡ backward σ t out b
-          unfolding backward demand askBoth if_then_else_
-          asked-both h f g k = simp (e, n, p, q, h, sym f, sym g, k)
+  module _ (out : Interval) where
+    pub left-unknown : evalInterval b l ≡ Unknown → Stable leaving b ≡ askBoth (demand (evalInterval b l) (evalInterval b r) out) (backward σ l) (backward σ r) b
+    unfolding demand askBoth
+    left-unknown p = simp p
+
+    module _ {x : Interval} (p : evalInterval b l ≡ Within x) where
+      pub right-unknown : evalInterval b r ≡ Unknown → Stable leaving b ≡ askBoth (demand (evalInterval b l) (evalInterval b r) out) (backward σ l) (backward σ r) b
+      unfolding demand askBoth
+      right-unknown q = simp (p, q)
+
+      pub both-known : {y : Interval} {d : Demand} {z : Narrowed} → evalInterval b r ≡ Within y → d ≡ askOf x y out → z ≡ askBoth d (backward σ l) (backward σ r) b
+          → z ≡ askBoth (demand (evalInterval b l) (evalInterval b r) out) (backward σ l) (backward σ r) b
+      unfolding demand
+      both-known q h g = simp (p, q, sym h) g

@@ -14,7 +14,8 @@ ghost use lib.ListN.{length};
 ghost use Rattle.interval.specs.Interval as Intervals;
 ghost use Rattle.interval.specs.Boxes.{intervals, boxesOf};
 ghost use Rattle.tree.specs.Nodes.{treeAt, Valid};
-ghost use Rattle.narrow.specs.Narrowing.{_leaving_, worseOf, emlInterval, evalInterval, leftOf, askReal, askOf, fixedAt, narrowVar, backward, targetOf, nudgeVar, nudgeTree, narrowAtom, hulls, survive as surviveOf, tightened, adopt as adoptOf, adoptSurvivors, propagate as propagateOf};
+ghost use Rattle.tree.specs.Tree.{Eml};
+ghost use Rattle.narrow.specs.Narrowing.{_leaving_, worseOf, emlInterval, forward, evalInterval, leftOf, askReal, askOf, demand as demandOf, askBoth, fixedAt, narrowVar, backward, targetOf, nudgeVar, nudgeTree, narrowAtom, hulls, survive as surviveOf, tightened, adopt as adoptOf, adoptSurvivors, propagate as propagateOf};
 ghost use Rattle.constraint.specs.Records.{constraintAt, gather};
 ghost use Rattle.constraint.specs.Starts.{upTo, Ready, Taken};
 ghost use Rattle.narrow.specs.Modes.{inMode, isNegated, underNot, relationIn, isConflict, survivorsOf, pass, passAll, passAny, passInto, passOne};
@@ -91,16 +92,22 @@ pub fn eval_interval(nodes: &[u8], k: usize, lo: &[f64], hi: &[f64]) -> Values
         Node::One => Values::Within(Interval::new(1.0, 1.0)),
         Node::Const(v) => Values::Within(Interval::new(v, v)),
         Node::Var(i) => Values::Within(interval::box_at(lo, hi, i)),
-        Node::Eml(a, b) => {
-            let Values::Within(l) = eval_interval(nodes, a, lo, hi) else {
-                return Values::Unknown;
-            };
-            let Values::Within(r) = eval_interval(nodes, b, lo, hi) else {
-                return Values::Unknown;
-            };
-            eml_interval(l, r)
-        }
+        Node::Eml(a, b) => eval_eml(nodes, a, b, lo, hi),
     }
+}
+
+// Of an Eml of nodes a and b.
+fn eval_eml(nodes: &[u8], a: usize, b: usize, lo: &[f64], hi: &[f64]) -> Values
+    requires { ⌜ Valid (now nodes) (a + 1) × Valid (now nodes) (b + 1) × (length (now hi) ≡ length (now lo)) ⌝ }
+    ensures { λ x. ⌜ x ≡ forward (evalInterval (intervals (now (lo .entry)) (now (hi .entry))) (treeAt (now (nodes .entry)) a)) (evalInterval (intervals (now (lo .entry)) (now (hi .entry))) (treeAt (now (nodes .entry)) b)) ⌝ }
+{
+    let Values::Within(l) = eval_interval(nodes, a, lo, hi) else {
+        return Values::Unknown;
+    };
+    let Values::Within(r) = eval_interval(nodes, b, lo, hi) else {
+        return Values::Unknown;
+    };
+    eml_interval(l, r)
 }
 
 // ---- backward
@@ -122,11 +129,10 @@ fn left_of(l: Interval, range: Interval) -> Interval
 }
 
 // The children lie in l and r, where ln(r) is real; exp(left) - ln(right) is to lie in out.
-fn ask_real(l: Interval, r: Interval, out: Interval) -> Demand
+fn ask_real(l: Interval, r: Interval, exp_l: Interval, ln_r: Interval, out: Interval) -> Demand
+    requires { ⌜ («exp_l» ≡ Intervals.exp l) × («ln_r» ≡ Intervals.ln r) ⌝ }
     ensures { λ x. ⌜ x ≡ askReal l r out ⌝ }
 {
-    let exp_l = l.exp();
-    let ln_r = r.ln();
     let out_c = out.intersect(minus(exp_l, ln_r));
     if out_c.is_empty() {
         return Demand::Answer(PropResult::Conflict);
@@ -149,7 +155,7 @@ fn ask(l: Interval, r: Interval, out: Interval) -> Demand
         return Demand::Answer(PropResult::Conflict);
     }
     if r.has_ln() {
-        return ask_real(l, r, out);
+        return ask_real(l, r, l.exp(), r.ln(), out);
     }
     Demand::Answer(PropResult::Stable)
 }
@@ -192,7 +198,7 @@ fn narrow_var(
     PropResult::Stable
 }
 
-// Node k's tree is to lie in out. Right is asked what was computed before left wrote, also after left's Conflict.
+// Node k's tree is to lie in out.
 pub fn backward_propagate(
     settings: Settings,
     nodes: &[u8],
@@ -211,21 +217,51 @@ pub fn backward_propagate(
         Node::One => fixed_at(1.0, out),
         Node::Const(v) => fixed_at(v, out),
         Node::Var(i) => narrow_var(settings, i, out, lo, hi),
-        Node::Eml(a, b) => {
-            let Values::Within(l) = eval_interval(nodes, a, lo, hi) else {
-                return PropResult::Stable;
-            };
-            let Values::Within(r) = eval_interval(nodes, b, lo, hi) else {
-                return PropResult::Stable;
-            };
-            match ask(l, r, out) {
-                Demand::Answer(result) => result,
-                Demand::Ask(left, right) => {
-                    let first = backward_propagate(settings, nodes, a, left, lo, hi);
-                    let second = backward_propagate(settings, nodes, b, right, lo, hi);
-                    worse(first, second)
-                }
-            }
+        Node::Eml(a, b) => backward_eml(settings, nodes, a, b, out, lo, hi),
+    }
+}
+
+// An Eml of nodes a and b is to lie in out.
+fn backward_eml(
+    settings: Settings,
+    nodes: &[u8],
+    a: usize,
+    b: usize,
+    out: Interval,
+    lo: &mut [f64],
+    hi: &mut [f64],
+) -> PropResult
+    requires { ⌜ Valid (now nodes) (a + 1) × Valid (now nodes) (b + 1) × (length (now hi) ≡ length (now lo)) ⌝ }
+    ensures { λ x. ⌜ (x leaving intervals (now (lo .exit)) (now (hi .exit))) ≡ askBoth (demandOf (evalInterval (intervals (now (lo .entry)) (now (hi .entry))) (treeAt (now (nodes .entry)) a)) (evalInterval (intervals (now (lo .entry)) (now (hi .entry))) (treeAt (now (nodes .entry)) b)) out) (backward settings (treeAt (now (nodes .entry)) a)) (backward settings (treeAt (now (nodes .entry)) b)) (intervals (now (lo .entry)) (now (hi .entry))) ⌝ }
+{
+    let Values::Within(l) = eval_interval(nodes, a, lo, hi) else {
+        return PropResult::Stable;
+    };
+    let Values::Within(r) = eval_interval(nodes, b, lo, hi) else {
+        return PropResult::Stable;
+    };
+    backward_both(settings, nodes, a, b, ask(l, r, out), lo, hi)
+}
+
+// What an Eml of nodes a and b asks of them. Right is asked what was computed before left wrote, also after left's Conflict.
+fn backward_both(
+    settings: Settings,
+    nodes: &[u8],
+    a: usize,
+    b: usize,
+    demand: Demand,
+    lo: &mut [f64],
+    hi: &mut [f64],
+) -> PropResult
+    requires { ⌜ Valid (now nodes) (a + 1) × Valid (now nodes) (b + 1) × (length (now hi) ≡ length (now lo)) ⌝ }
+    ensures { λ x. ⌜ (x leaving intervals (now (lo .exit)) (now (hi .exit))) ≡ askBoth demand (backward settings (treeAt (now (nodes .entry)) a)) (backward settings (treeAt (now (nodes .entry)) b)) (intervals (now (lo .entry)) (now (hi .entry))) ⌝ }
+{
+    match demand {
+        Demand::Answer(result) => result,
+        Demand::Ask(left, right) => {
+            let first = backward_propagate(settings, nodes, a, left, lo, hi);
+            let second = backward_propagate(settings, nodes, b, right, lo, hi);
+            worse(first, second)
         }
     }
 }
@@ -341,8 +377,52 @@ fn nudge(nodes: &[u8], k: usize, lo: &mut [f64], hi: &mut [f64]) -> PropResult
     }
 }
 
+// An Eml of nodes a and b is to compare with zero as the relation says. What is computed of them forward is used backward.
+fn narrow_eml(
+    settings: Settings,
+    relation: Relation,
+    nodes: &[u8],
+    a: usize,
+    b: usize,
+    lo: &mut [f64],
+    hi: &mut [f64],
+) -> PropResult
+    requires { ⌜ Valid (now nodes) (a + 1) × Valid (now nodes) (b + 1) × (length (now hi) ≡ length (now lo)) ⌝ }
+    ensures { λ x. ⌜ (x leaving intervals (now (lo .exit)) (now (hi .exit))) ≡ narrowAtom settings relation (Eml (treeAt (now (nodes .entry)) a) (treeAt (now (nodes .entry)) b)) (intervals (now (lo .entry)) (now (hi .entry))) ⌝ }
+{
+    let Values::Within(l) = eval_interval(nodes, a, lo, hi) else {
+        return PropResult::Stable;
+    };
+    let Values::Within(r) = eval_interval(nodes, b, lo, hi) else {
+        return PropResult::Stable;
+    };
+    if l.is_empty() | r.is_empty() {
+        return PropResult::Conflict;
+    }
+    if !r.has_ln() {
+        return PropResult::Stable;
+    }
+    let exp_l = l.exp();
+    let ln_r = r.ln();
+    let v = minus(exp_l, ln_r);
+    if v.is_empty() {
+        return PropResult::Conflict;
+    }
+    match target_of(settings, relation, v) {
+        Target::Stop(result) => result,
+        Target::Out(out) => {
+            if out.is_empty() {
+                return PropResult::Conflict;
+            }
+            let demand = ask_real(l, r, exp_l, ln_r, out);
+            backward_both(settings, nodes, a, b, demand, lo, hi)
+        }
+        Target::Nudge => PropResult::Stable,
+    }
+}
+
 // Node k's tree is to compare with zero as the relation says.
-fn narrow_atom(
+fn narrow_other(
     settings: Settings,
     relation: Relation,
     nodes: &[u8],
@@ -364,6 +444,24 @@ fn narrow_atom(
         Target::Out(out) => backward_propagate(settings, nodes, k, out, lo, hi),
         Target::Nudge => nudge(nodes, k, lo, hi),
     }
+}
+
+// The same, with an Eml's children computed once.
+fn narrow_atom(
+    settings: Settings,
+    relation: Relation,
+    nodes: &[u8],
+    k: usize,
+    lo: &mut [f64],
+    hi: &mut [f64],
+) -> PropResult
+    requires { ⌜ Valid (now nodes) (k + 1) × (length (now hi) ≡ length (now lo)) ⌝ }
+    ensures { λ x. ⌜ (x leaving intervals (now (lo .exit)) (now (hi .exit))) ≡ narrowAtom settings relation (treeAt (now (nodes .entry)) k) (intervals (now (lo .entry)) (now (hi .entry))) ⌝ }
+{
+    let Node::Eml(a, b) = tree::node_in(nodes, k) else {
+        return narrow_other(settings, relation, nodes, k, lo, hi);
+    };
+    narrow_eml(settings, relation, nodes, a, b, lo, hi)
 }
 
 // ---- one round

@@ -15,6 +15,7 @@ use Rattle.tree.specs.Refusal.{_or-else_, _unless_}
 use Rattle.tree.specs.RefusalLaws.{none-both, none-unless, or-else-refused}
 use Rattle.tree.specs.Nodes.{listRefusal, treeAt, Valid}
 use Rattle.tree.specs.NodeLaws.{list-valid, prefix}
+use Rattle.tree.specs.Code.{Within}
 use Rattle.constraint.specs.Records.{constraintAt}
 use Rattle.constraint.specs.Starts.{Ready}
 use Rattle.file.specs.File.{Read, Refused, readBy, givenRefusal, readGiven}
@@ -25,7 +26,7 @@ use Rattle.point.specs.declared.CheckAnswer.{CheckAnswer}
 use Rattle.point.specs.declared.ResidualAnswer.{ResidualAnswer}
 use Rattle.point.specs.declared.eval.Evaluated.{Evaluated}
 use Rattle.point.specs.Eval.{evalReal}
-use Rattle.point.specs.Lent.{Lent, room, short-room}
+use Rattle.point.specs.Lent.{Lent, room}
 use Rattle.point.specs.Check.{check}
 use Rattle.point.specs.Residual.{residual}
 use Rattle.point.specs.Answer.{evalRefusal, evalBy, evalAnswer, checkedBy, checkAnswer, residualBy, residualAnswer}
@@ -135,8 +136,8 @@ module _ (nodes b : List ℕ) (p : List Float) where
 
 -- ---- the room that is made
 module _ (nodes : List ℕ) (p : List Float) (order : List ℕ) (h : length p ≤ 16) where
-  pub short-lent : length nodes ≤ 128 → length order ≡ 256 → Lent nodes p order
-  short-lent l e = record { few = h; long = λ i v. omega (arith, short-room nodes i v (omega (arith, v .there))) }
+  pub short-lent : (n : ℕ) → Within nodes (length nodes / 16) n → n ≤ 64 → length order ≡ 64 → Lent nodes p order
+  short-lent n w l e = record { few = h; long = λ i v. omega (arith, w i (omega (arith, v .there))) }
 
   pub lent : length order ≡ 4096 → Lent nodes p order
   lent e = record { few = h; long = λ i v. omega (arith, room nodes i v) }

@@ -112,6 +112,12 @@ fn eml_complex(left: Complex, right: Complex, settings: Settings) -> EvaluatedCo
     EvaluatedComplex::Value(z)
 }
 
+fn complex(re: f64, im: f64) -> Complex
+    ensures { λ z. ⌜ z ≡ record { re = re; im = im } ⌝ }
+{
+    Complex { re, im }
+}
+
 // Runs the instructions of the first n nodes of order. The stack's values have their parts in re and im.
 fn run(
     nodes: &[u8],
@@ -150,14 +156,8 @@ fn run(
                 top += 1;
             }
             Instruction::Eml => {
-                let right = Complex {
-                    re: re[top - 1],
-                    im: im[top - 1],
-                };
-                let left = Complex {
-                    re: re[top - 2],
-                    im: im[top - 2],
-                };
+                let right = complex(re[top - 1], im[top - 1]);
+                let left = complex(re[top - 2], im[top - 2]);
                 let out = eml_complex(left, right, settings);
                 let EvaluatedComplex::Value(z) = out else {
                     return out;
@@ -168,10 +168,7 @@ fn run(
             }
         }
     }
-    EvaluatedComplex::Value(Complex {
-        re: re[0],
-        im: im[0],
-    })
+    EvaluatedComplex::Value(complex(re[0], im[0]))
 }
 
 // The order is lent, so that it is made once for many evaluations. The stack is made for each; most trees are short, and a short stack is

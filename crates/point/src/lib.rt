@@ -4,9 +4,11 @@ pub mod helpers; // helpers.rs: the check and the residual
 
 use eval::EvalError;
 use eval::Evaluated;
+use tree::Tested;
 ghost use mathlib.Core.Path.{_≡_};
-ghost use Prim.Native.Nat.{_+_};
+ghost use Prim.Native.Nat.{_+_, _≤_};
 ghost use Rattle.settings.specs.Settings.{usual};
+ghost use Rattle.tree.specs.Tree.{size};
 ghost use Rattle.tree.specs.Nodes.{Valid, treeAt};
 ghost use Rattle.point.specs.Eval.{evalReal};
 ghost use Rattle.point.specs.Answer.{evalRefusal, evalAnswer, checkAnswer, residualAnswer};
@@ -28,34 +30,43 @@ pub enum ResidualAnswer {
     Residual(f64),
 }
 
-fn eval_refusal(nodes: &[u8], k: usize, point: &[f64]) -> u8
-    ensures { λ r. ⌜ r ≡ evalRefusal (now (nodes .entry)) k (now (point .entry)) ⌝ }
+fn refused(refusal: u8) -> Tested
+    ensures { λ r. ⌜ r .refusal ≡ refusal ⌝ }
+{
+    let largest = 0;
+    Tested { refusal, largest }
+}
+
+// The tests of eval_real, and where they pass a size that the node's tree is not above.
+fn eval_tested(nodes: &[u8], k: usize, point: &[f64]) -> Tested
+    ensures { λ r. ⌜ r .refusal ≡ evalRefusal (now (nodes .entry)) k (now (point .entry)) ⌝ }
+    ensures { λ r. ⌜ (r .refusal ≡ 0 → size (treeAt (now (nodes .entry)) k) ≤ r .largest) ⌝ }
 {
     let count = nodes.len() / 16;
     let over = nodes.len() % 16;
     if over != 0 {
-        return 2;
+        return refused(2);
     }
-    let r = tree::test_list(nodes, count);
-    if r != 0 {
-        return r;
+    let t = tree::test_sizes(nodes, count);
+    if t.refusal != 0 {
+        return t;
     }
     if count <= k {
-        return 3;
+        return refused(3);
     }
     if 16 < point.len() {
-        return 9;
+        return refused(9);
     }
-    0
+    t
 }
 
-// The trees of the first eight nodes are short, and room for a short postorder is made sooner.
-fn eval_usual(nodes: &[u8], k: usize, point: &[f64]) -> Evaluated
-    requires { ⌜ Valid (now nodes) (k + 1) ⌝ }
+// The tree is of at most that size. Room for a short postorder is made sooner.
+fn eval_usual(nodes: &[u8], k: usize, point: &[f64], largest: usize) -> Evaluated
+    requires { ⌜ Valid (now nodes) (k + 1) × (size (treeAt (now nodes) k) ≤ largest) ⌝ }
     ensures { λ x. ⌜ x ≡ evalReal usual (now (point .entry)) (treeAt (now (nodes .entry)) k) ⌝ }
 {
-    if k < 8 {
-        let mut order = [0u16; 256];
+    if largest <= 64 {
+        let mut order = [0u16; 64];
         return eval::eval_real(nodes, k, point, settings::usual(), &mut order);
     }
     let mut order = [0u16; 4096];
@@ -66,11 +77,11 @@ fn eval_usual(nodes: &[u8], k: usize, point: &[f64]) -> Evaluated
 pub fn eval_real(nodes: &[u8], node: usize, point: &[f64]) -> EvalAnswer
     ensures { λ r. ⌜ r ≡ evalAnswer (now (nodes .entry)) node (now (point .entry)) ⌝ }
 {
-    let r = eval_refusal(nodes, node, point);
-    if r != 0 {
-        return EvalAnswer::Refused(r);
+    let t = eval_tested(nodes, node, point);
+    if t.refusal != 0 {
+        return EvalAnswer::Refused(t.refusal);
     }
-    match eval_usual(nodes, node, point) {
+    match eval_usual(nodes, node, point, t.largest) {
         Evaluated::Value(v) => EvalAnswer::Value(v),
         Evaluated::Failed(e) => EvalAnswer::Failed(e),
     }
@@ -81,16 +92,16 @@ pub fn check_constraint(nodes: &[u8], constraints: &[u8], point: &[f64]) -> Chec
     ensures { λ r. ⌜ r ≡ checkAnswer (now (nodes .entry)) (now (constraints .entry)) (now (point .entry)) ⌝ }
 {
     let mut starts = [0usize; 256];
-    let r = file::test_given(nodes, constraints, &mut starts);
-    if r != 0 {
-        return CheckAnswer::Refused(r);
+    let t = file::test_sized(nodes, constraints, &mut starts);
+    if t.refusal != 0 {
+        return CheckAnswer::Refused(t.refusal);
     }
     if 16 < point.len() {
         return CheckAnswer::Refused(9);
     }
     let last = constraints.len() / 24 - 1;
-    if nodes.len() <= 128 {
-        let mut order = [0u16; 256];
+    if t.largest <= 64 {
+        let mut order = [0u16; 64];
         return CheckAnswer::Checked(helpers::check_constraint(
             nodes,
             constraints,
@@ -118,16 +129,16 @@ pub fn residual(nodes: &[u8], constraints: &[u8], point: &[f64]) -> ResidualAnsw
     ensures { λ r. ⌜ r ≡ residualAnswer (now (nodes .entry)) (now (constraints .entry)) (now (point .entry)) ⌝ }
 {
     let mut starts = [0usize; 256];
-    let r = file::test_given(nodes, constraints, &mut starts);
-    if r != 0 {
-        return ResidualAnswer::Refused(r);
+    let t = file::test_sized(nodes, constraints, &mut starts);
+    if t.refusal != 0 {
+        return ResidualAnswer::Refused(t.refusal);
     }
     if 16 < point.len() {
         return ResidualAnswer::Refused(9);
     }
     let last = constraints.len() / 24 - 1;
-    if nodes.len() <= 128 {
-        let mut order = [0u16; 256];
+    if t.largest <= 64 {
+        let mut order = [0u16; 64];
         return ResidualAnswer::Residual(helpers::evaluate_constraint_residual(
             nodes,
             constraints,

@@ -1,3 +1,4 @@
 pub mod Floats
 pub mod Nodes
 pub mod Append
+pub mod Tests

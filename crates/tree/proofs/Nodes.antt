@@ -8,9 +8,9 @@ use native.Mathlib.Omega.{arith}
 use borrow.Author.Tests.{le-leb, lt-leb}
 use lib.ListN.{length, getD, set}
 use Rattle.tree.specs.Refusal.{first, passing, filled}
-use Rattle.tree.specs.RefusalLaws.{none-more, none-of-each, passing-all, first-here, passing-here, filled-at, filled-more}
+use Rattle.tree.specs.RefusalLaws.{none-more, none-of-each, passing-all, first-here, passing-here, length-filled, filled-at, filled-more}
 use Rattle.tree.specs.Tree.{size, depth, isSmall}
-use Rattle.tree.specs.Nodes.{nodeAt, isNode, treeAt, nodeRefusal, nodesRefusal, Valid}
+use Rattle.tree.specs.Nodes.{nodeAt, isNode, treeAt, nodeRefusal, nodesRefusal, nodesFit, listRefusal, Valid}
 use Rattle.tree.specs.NodeLaws.{Right, right, tree-one, tree-const, tree-var, tree-eml, size-small, depth-small}
 use Rattle.tree.specs.Code.{sizeAt, depthAt, sizeBy, depthBy, Known}
 use Rattle.tree.specs.declared.Node.{Node}
@@ -70,7 +70,7 @@ module _ (b : List ℕ) (k : ℕ) (s₀ d₀ s d : List ℕ) (p : Passed b k s�
     }
 
     -- what `measure` asks and tells
-    module _ (ls : length s₀ ≡ 1024) (ld : length d₀ ≡ 1024) where
+    module _ (ls : n ≤ length s₀) (ld : n ≤ length d₀) where
       valid : Valid b k
       valid = record { few = omega arith; there = omega arith; each = none-of-each (nodeRefusal b) k (p .none) }
 
@@ -80,13 +80,21 @@ module _ (b : List ℕ) (k : ℕ) (s₀ d₀ s d : List ℕ) (p : Passed b k s�
       depth-at : (j : ℕ) → j < k → getD d j 0 ≡ depth (treeAt b j)
       depth-at j h = ap (λ (a : List ℕ). getD a j 0) (p .depths) ∙ filled-at (depthAt b) d₀ k j h (omega arith)
 
+      places : length s ≡ length s₀
+      places = ap length (p .sizes) ∙ length-filled (sizeAt b) s₀ k
+
+      deep-places : length d ≡ length d₀
+      deep-places = ap length (p .depths) ∙ length-filled (depthAt b) d₀ k
+
       known : (x : Node) → Right k x → Known x s d
       known Node.One h = tt
       known (Node.Const v) h = tt
       known (Node.Var i) h = tt
       known (Node.Eml i j) h = record {
-        left = omega arith;
-        right = omega arith;
+        left = omega (arith, places, h .0);
+        right = omega (arith, places, h .1);
+        left-deep = omega (arith, deep-places, h .0);
+        right-deep = omega (arith, deep-places, h .1);
         left-size = omega (arith, size-at i (h .0), size-small b k valid i (h .0));
         right-size = omega (arith, size-at j (h .1), size-small b k valid j (h .1));
         left-depth = omega (arith, depth-at i (h .0), depth-small b k valid i (h .0));
@@ -107,3 +115,19 @@ module _ (b : List ℕ) (k : ℕ) (s₀ d₀ s d : List ℕ) (p : Passed b k s�
 
       pub told : (sizeBy (nodeAt b k) s ≡ size (treeAt b k)) × (depthBy (nodeAt b k) d ≡ depth (treeAt b k))
       told = sized (nodeAt b k) refl (right b k is)
+
+-- ---- what `test_in` and `test_sizes` tell
+-- the sizes held, of a list that passed
+pub size-held : (b : List ℕ) (n : ℕ) (s₀ s : List ℕ) → n ≤ length s₀ → s ≡ filled (sizeAt b) (passing (nodeRefusal b) n) s₀ → nodesRefusal b n ≡ 0 → (k : ℕ) → k < n → getD s k 0 ≡ size (treeAt b k)
+unfolding nodesRefusal
+size-held b n s₀ s l e none k h =
+    ap (λ (a : List ℕ). getD a k 0) (e ∙ ap (λ (j : ℕ). filled (sizeAt b) j s₀) (passing-all (nodeRefusal b) n none)) ∙ filled-at (sizeAt b) s₀ n k h l
+
+module _ (b : List ℕ) (n : ℕ) where
+  pub no-fit : nodesFit (length b) n ≡ false → 2 ≡ listRefusal b n
+  unfolding listRefusal
+  no-fit e = simp e
+
+  pub fitting : nodesFit (length b) n ≡ true → nodesRefusal b n ≡ listRefusal b n
+  unfolding listRefusal
+  fitting e = simp e

@@ -1,15 +1,26 @@
 -- What the functions below the tests compute, in the terms of their arguments.
 use Prim.Native.Nat.{ℕ, _+_, max, _≤_, _<_}
 use mathlib.Core.Path.{_≡_}
-use mathlib.Core.Bool.{_&&_}
+use mathlib.Core.Bool.{Bool, _&&_}
 use mathlib.Core.List.{List}
-use lib.Dec.{leb, ltb}
-use lib.ListN.{getD}
+use lib.Dec.{leb, ltb, eqb}
+use Rattle.number.specs.Notation.{if_then_else_}
+use lib.ListN.{length, getD}
 use Rattle.tree.specs.Refusal.{_or-else_, _unless_}
 use Rattle.tree.specs.Tree.{Tree, size, depth}
 use Rattle.tree.specs.Nodes.{nodesFit, treeAt, listRefusal}
 use Rattle.tree.specs.declared.Sized.{Sized}
 use Rattle.tree.specs.declared.Node.{Node}
+
+-- the ends of the numbers of a record of that kind, of node k
+abbrev pub rightEnd : ℕ → ℕ → ℕ
+rightEnd kind k = if eqb kind 3 then k else 1
+
+abbrev pub leftEnd : ℕ → ℕ → ℕ
+leftEnd kind k = if eqb kind 2 then 16 else rightEnd kind k
+
+abbrev pub chosen : ℕ → Bool → Bool → Bool
+chosen kind constant other = if eqb kind 1 then constant else other
 
 abbrev pub sizeAt : List ℕ → ℕ → ℕ
 sizeAt b k = size (treeAt b k)
@@ -32,8 +43,10 @@ depthBy (Node.Eml l r) d = 1 + max (getD d l 0) (getD d r 0)
 
 -- its children's are there, and small
 pub record KnownBoth (l r : ℕ) (s d : List ℕ) : Type 0 where
-  pub left : l < 1024
-  pub right : r < 1024
+  pub left : l < length s
+  pub right : r < length s
+  pub left-deep : l < length d
+  pub right-deep : r < length d
   pub left-size : getD s l 0 ≤ 4096
   pub right-size : getD s r 0 ≤ 4096
   pub left-depth : getD d l 0 ≤ 128
@@ -44,6 +57,10 @@ Known Node.One s d = Unit {0}
 Known (Node.Const v) s d = Unit {0}
 Known (Node.Var i) s d = Unit {0}
 Known (Node.Eml l r) s d = KnownBoth l r s d
+
+-- the trees of the first n nodes are of at most that size
+abbrev pub Within : List ℕ → ℕ → ℕ → Type 0
+Within b n largest = (k : ℕ) → k < n → size (treeAt b k) ≤ largest
 
 -- the size and the depth of an accepted tree
 pub record Measured (t : Tree) (s : Sized) : Type 0 where

@@ -1,6 +1,6 @@
 // Numbered nodes (document 01, "The file"): their records, the tests of a list of nodes, and what `Canonical` (canonical.rs) appends to one.
 ghost use mathlib.Core.Path.{_≡_};
-ghost use Prim.Native.Nat.{max, _+_, _*_, _≤_, _<_};
+ghost use Prim.Native.Nat.{ℕ, max, _+_, _*_, _≤_, _<_};
 ghost use mathlib.Core.List.{_++_};
 ghost use lib.ListN.{length, getD};
 ghost use lib.Seq.{sets};
@@ -10,7 +10,7 @@ ghost use Rattle.tree.specs.Bytes.{u32At, u64At, f64At, u32Bytes};
 ghost use Rattle.tree.specs.Refusal.{passing, filled};
 ghost use Rattle.tree.specs.Tree.{treeVars};
 ghost use Rattle.tree.specs.Nodes.{nodeAt, isNode, treeAt, nodeRefusal, nodesRefusal, nodesFit, listRefusal, Valid};
-ghost use Rattle.tree.specs.Code.{sizeAt, depthAt, sizeBy, depthBy, Known, KnownBoth, Measured, operandsRefusal, resultRefusal};
+ghost use Rattle.tree.specs.Code.{rightEnd, leftEnd, chosen, sizeAt, depthAt, sizeBy, depthBy, Known, KnownBoth, Within, Measured, operandsRefusal, resultRefusal};
 ghost use Rattle.tree.specs.Canonical.{_leaving_, nodeBytes, nodesBytes, lnNodes, subNodes, lnRefusal, subRefusal, ln as lnOutcome, sub as subOutcome};
 ghost use Rattle.tree.specs.Fingerprint.{mix as mixed, mixFloat as mixedFloat, fingerprint as printOf};
 
@@ -72,6 +72,36 @@ fn is_finite(bits: u64) -> bool
     bits % 0x8000_0000_0000_0000 / 0x0010_0000_0000_0000 != 2047
 }
 
+// The numbers at 8 and at 4 of a node's record are below these. Kinds come in any order, so that no branch goes by the kind.
+fn right_end(kind: u32, k: usize) -> usize
+    ensures { λ r. ⌜ r ≡ rightEnd kind k ⌝ }
+{
+    if kind == 3 {
+        return k;
+    }
+    1
+}
+
+fn left_end(kind: u32, k: usize) -> usize
+    ensures { λ r. ⌜ r ≡ leftEnd kind k ⌝ }
+{
+    let end = right_end(kind, k);
+    if kind == 2 {
+        return 16;
+    }
+    end
+}
+
+// The test of a constant, or that of the other kinds.
+fn choose(kind: u32, constant: bool, other: bool) -> bool
+    ensures { λ r. ⌜ r ≡ chosen kind constant other ⌝ }
+{
+    if kind == 1 {
+        return constant;
+    }
+    other
+}
+
 // Whether record k is a node's.
 pub fn is_node(nodes: &[u8], k: usize) -> bool
     requires { ⌜ 16 * k + 16 ≤ length (now nodes) ⌝ }
@@ -82,13 +112,9 @@ pub fn is_node(nodes: &[u8], k: usize) -> bool
     let left = read_u32(nodes, at + 4) as usize;
     let right = read_u32(nodes, at + 8) as usize;
     let last = read_u32(nodes, at + 12);
-    match kind {
-        0 => (left == 0) & (right == 0) & (last == 0),
-        1 => (left == 0) & is_finite(read_u64(nodes, at + 8)),
-        2 => (left < 16) & (right == 0) & (last == 0),
-        3 => (left < k) & (right < k) & (last == 0),
-        _ => false,
-    }
+    let real = is_finite(read_u64(nodes, at + 8));
+    let rest = (right < right_end(kind, k)) & (last == 0);
+    (kind < 4) & (left < left_end(kind, k)) & choose(kind, real, rest)
 }
 
 // Node k, read with no test.
@@ -126,7 +152,7 @@ pub fn larger(x: usize, y: usize) -> usize
     x
 }
 
-fn measure_eml(l: usize, r: usize, size: &[u16; 1024], depth: &[u8; 1024]) -> Sized
+fn measure_eml(l: usize, r: usize, size: &[u16], depth: &[u8]) -> Sized
     requires { ⌜ KnownBoth l r (now size) (now depth) ⌝ }
     ensures { λ x. ⌜ (x .size ≡ 1 + getD (now (size .entry)) l 0 + getD (now (size .entry)) r 0) × (x .depth ≡ 1 + max (getD (now (depth .entry)) l 0) (getD (now (depth .entry)) r 0)) ⌝ }
 {
@@ -137,7 +163,7 @@ fn measure_eml(l: usize, r: usize, size: &[u16; 1024], depth: &[u8; 1024]) -> Si
 }
 
 // A node's, by those of the nodes before it.
-fn measure(node: Node, size: &[u16; 1024], depth: &[u8; 1024]) -> Sized
+fn measure(node: Node, size: &[u16], depth: &[u8]) -> Sized
     requires { ⌜ Known node (now size) (now depth) ⌝ }
     ensures { λ r. ⌜ (r .size ≡ sizeBy node (now (size .entry))) × (r .depth ≡ depthBy node (now (depth .entry))) ⌝ }
 {
@@ -149,9 +175,9 @@ fn measure(node: Node, size: &[u16; 1024], depth: &[u8; 1024]) -> Sized
     }
 }
 
-// Each of count nodes: 3, then 4. The sizes and depths of those that pass are left in the two arrays.
-fn test_nodes(nodes: &[u8], count: usize, size: &mut [u16; 1024], depth: &mut [u8; 1024]) -> u8
-    requires { ⌜ (count ≤ 1024) × (16 * count ≤ length (now nodes)) × (length (now size) ≡ 1024) × (length (now depth) ≡ 1024) ⌝ }
+// Each of count nodes: 3, then 4. The sizes and depths of those that pass are left in the two lists.
+fn test_nodes(nodes: &[u8], count: usize, size: &mut [u16], depth: &mut [u8]) -> u8
+    requires { ⌜ (count ≤ 1024) × (16 * count ≤ length (now nodes)) × (count ≤ length (now size)) × (count ≤ length (now depth)) ⌝ }
     ensures { λ r. ⌜ r ≡ nodesRefusal (now (nodes .entry)) count ⌝ }
     ensures { λ _. ⌜ now (size .exit) ≡ filled (sizeAt (now (nodes .entry))) (passing (nodeRefusal (now (nodes .entry))) count) (now (size .entry)) ⌝ }
     ensures { λ _. ⌜ now (depth .exit) ≡ filled (depthAt (now (nodes .entry))) (passing (nodeRefusal (now (nodes .entry))) count) (now (depth .entry)) ⌝ }
@@ -185,16 +211,64 @@ fn nodes_fit(len: usize, n: usize) -> bool
     16 * n <= len
 }
 
-// A list of count nodes: 2, then each node 3, 4.
+// The refusal of a list of nodes, or 0; and where there is none, a size that no node's tree is above.
+pub struct Tested {
+    pub refusal: u8,
+    pub largest: usize,
+}
+
+// The greatest of the first n, and 0 of none.
+fn largest_of(size: &[u16], n: usize) -> usize
+    requires { ⌜ n ≤ length (now size) ⌝ }
+    ensures { λ r. ⌜ ((i : ℕ) → i < n → getD (now (size .entry)) i 0 ≤ r) ⌝ }
+{
+    let mut r: usize = 0;
+    let mut i: usize = 0;
+    while i < n {
+        r = larger(r, size[i] as usize);
+        i += 1;
+    }
+    r
+}
+
+// With room lent for the sizes and depths.
+fn test_in(nodes: &[u8], count: usize, size: &mut [u16], depth: &mut [u8]) -> Tested
+    requires { ⌜ (count ≤ 1024) × (16 * count ≤ length (now nodes)) × (count ≤ length (now size)) × (count ≤ length (now depth)) ⌝ }
+    ensures { λ r. ⌜ r .refusal ≡ nodesRefusal (now (nodes .entry)) count ⌝ }
+    ensures { λ r. ⌜ (r .refusal ≡ 0 → Within (now (nodes .entry)) count (r .largest)) ⌝ }
+{
+    let refusal = test_nodes(nodes, count, size, depth);
+    let largest = largest_of(size, count);
+    Tested { refusal, largest }
+}
+
+// A list of count nodes: 2, then each node 3, 4. Room for a short list is made sooner.
+pub fn test_sizes(nodes: &[u8], count: usize) -> Tested
+    ensures { λ r. ⌜ r .refusal ≡ listRefusal (now (nodes .entry)) count ⌝ }
+    ensures { λ r. ⌜ (r .refusal ≡ 0 → Within (now (nodes .entry)) count (r .largest)) ⌝ }
+{
+    if !nodes_fit(nodes.len(), count) {
+        return Tested {
+            refusal: 2,
+            largest: 0,
+        };
+    }
+    if count <= 64 {
+        let mut size = [0u16; 64];
+        let mut depth = [0u8; 64];
+        return test_in(nodes, count, &mut size, &mut depth);
+    }
+    let mut size = [0u16; 1024];
+    let mut depth = [0u8; 1024];
+    test_in(nodes, count, &mut size, &mut depth)
+}
+
+// Its refusal only.
 pub fn test_list(nodes: &[u8], count: usize) -> u8
     ensures { λ r. ⌜ r ≡ listRefusal (now (nodes .entry)) count ⌝ }
 {
-    if nodes_fit(nodes.len(), count) {
-        let mut size = [0u16; 1024];
-        let mut depth = [0u8; 1024];
-        return test_nodes(nodes, count, &mut size, &mut depth);
-    }
-    2
+    let t = test_sizes(nodes, count);
+    t.refusal
 }
 
 // ---- a node's tree

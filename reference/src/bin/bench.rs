@@ -281,7 +281,7 @@ fn solving() {
             |problem, c| solve(problem, &c.problem.bounds),
             |c| {
                 let bounds = c.problem.bounds.iter();
-                let bounds: Vec<_> = bounds.map(|&(lo, hi)| eml::Interval::new(lo, hi)).collect();
+                let bounds: Vec<_> = bounds.map(|&(lo, hi)| eml::Interval { lo, hi }).collect();
                 black_box(records(c).solve(&bounds, LIMIT, 1e-8).is_ok());
             },
         );

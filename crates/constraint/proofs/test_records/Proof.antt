@@ -98,7 +98,7 @@ loop-again c =
     let at19 = at15 .before .before .before .before in
     let v = at19 .loop .inv in
     let im = at14 .taken-by .ensures ∙ ap takes (at15 .record-in .ensures) in
-    let s = c .before .before .first-of .ensures ∙ start-told _ _ _ _ _ _ (v .6) _ im (omega arith) (v .4) in (
+    let s = c .before .before .first-of .ensures .0 ∙ start-told _ _ _ _ _ _ (v .6) _ im (omega arith) (v .4) in (
       omega arith,
       omega arith,
       length-set (at19 .loop .depth) _ _ ∙ v .2,

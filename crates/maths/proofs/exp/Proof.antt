@@ -55,9 +55,6 @@ near c = times-log _ (bounded (c .before .before .before .args .x) (real (c .bef
 nearest-requires : tie.Need-nearest-requires
 nearest-requires c κs = wider 1501 (2 ^ 52) _ (lit≤ tt) (near c)
 
-nearest-i64-to-f64-requires : tie.Need-nearest-i64-to-f64-requires
-nearest-i64-to-f64-requires c κs = search needs
-
 float-from-bits-r : tie.Need-float-from-bits-r
 unfolding nanBits
 float-from-bits-r c = tt
@@ -72,11 +69,17 @@ exp-sum-requires c κs = search needs
 k-is : (c : tie.After-nearest) → again (c .nearest .result) ≡ c .nearest .result
 k-is c = toZ-ofZ w64 (c .nearest .result) (record { sfits = c .nearest .ok })
 
+-- k is small
+small : (c : tie.After-nearest) → mag (again (c .nearest .result)) < 1502
+small c =
+    let h : mag (nearest _) < 1501 + 1 = nearest-small 1501 _ (near (c .before)) in
+    rw (k-is c, c .nearest .ensures) (omega arith)
+
+float-of-requires : tie.Need-float-of-requires
+float-of-requires c κs = omega (arith, small c)
+
 scale-requires : tie.Need-scale-requires
-scale-requires c κs =
-    let n = c .before .before in
-    let h : mag (nearest _) < 1501 + 1 = nearest-small 1501 _ (near (n .before)) in
-    rw (k-is n, n .nearest .ensures) (omega arith)
+scale-requires c κs = omega (arith, small (c .before .before))
 
 returns-4 : tie.Need-returns-4
 unfolding expOf expAt if_then_else_
@@ -85,7 +88,7 @@ returns-4 c =
     let e = n .before in
     let k = k-is n in
     simp (real (e .before .before), most, least, e .before .if2 .left, e .if3 .left)
-    (cc (k, n .nearest .ensures, c .before .before .nearest-i64-to-f64 .ensures, c .before .exp-sum .ensures, c .scale .ensures))
+    (cc (k, n .nearest .ensures, c .before .before .float-of .ensures, c .before .exp-sum .ensures, c .scale .ensures))
 
 pub exp-spec : {M : Type 1} → statement M
 exp-spec =
@@ -96,7 +99,7 @@ exp-spec =
     returns-3
     float-from-bits-nearest
     nearest-requires
-    nearest-i64-to-f64-requires
+    float-of-requires
     float-from-bits-r
     float-from-bits-r-2
     exp-sum-requires

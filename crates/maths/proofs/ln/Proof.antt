@@ -80,11 +80,11 @@ float-from-bits-if5 : tie.Need-float-from-bits-if5
 unfolding nanBits
 float-from-bits-if5 c = tt
 
-next-fits : (z : ℤ) → mag z < 5000 → SFits w64 (z +ℤ pos 1)
-next-fits (pos n) h = record { sfits = omega arith }
-next-fits (negsuc n) h = record { sfits = go (ltb 1 (suc n)) }
+next-small : (z : ℤ) → mag z < 5000 → mag (z +ℤ pos 1) < 5002
+next-small (pos n) h = omega arith
+next-small (negsuc n) h = go (ltb 1 (suc n))
   where
-    go : (t : Bool) → mag (cond t (negsuc (suc n - 2)) (pos (1 - suc n))) < 2 ^ 63
+    go : (t : Bool) → mag (cond t (negsuc (suc n - 2)) (pos (1 - suc n))) < 5002
     go true = omega arith
     go false = omega arith
 
@@ -92,13 +92,15 @@ e-is : (c : tie.After-split) → again (c .split .result .e) ≡ c .split .resul
 e-is c = toZ-ofZ w64 _ (record { sfits = omega (arith, c .split .ensures .2) })
 
 add-ln-at : tie.Need-add-ln-at
-add-ln-at c = rw (e-is (c .before .before)) (next-fits (c .before .before .split .result .e) (c .before .before .split .ensures .2))
+add-ln-at c = rw (e-is (c .before .before)) (record { sfits = omega (arith, next-small (c .before .before .split .result .e) (c .before .before .split .ensures .2)) })
 
 ln-at-requires : tie.Need-ln-at-requires
-ln-at-requires c κs = search needs
+ln-at-requires c κs =
+    let s = c .before .before in
+    rw (toZ-ofZ w64 _ (add-ln-at c), e-is s) (omega (arith, next-small (s .split .result .e) (s .split .ensures .2)))
 
 ln-at-requires-2 : tie.Need-ln-at-requires-2
-ln-at-requires-2 c κs = search needs
+ln-at-requires-2 c κs = rw (e-is (c .before .before)) (omega (arith, c .before .before .split .ensures .2))
 
 returns-5 : tie.Need-returns-5
 unfolding lnOf lnFrom if_then_else_

@@ -8,8 +8,8 @@ use Rattle.number.specs.Literals.{one-is, two-is}
 use Rattle.maths.proofs.ln_at.Statement.{statement}
 use Rattle.maths.proofs.ln_at.Tie as tie
 
-nearest-i64-to-f64-requires : tie.Need-nearest-i64-to-f64-requires
-nearest-i64-to-f64-requires c κs = search needs
+float-of-requires : tie.Need-float-of-requires
+float-of-requires c κs = search needs
 
 ln-sum-requires : tie.Need-ln-sum-requires
 ln-sum-requires c κs = search needs
@@ -26,7 +26,7 @@ returns : tie.Need-returns
 unfolding lnAt
 returns c =
     let e = toZ-ofZ w64 (c .before .before .args .e) (c .before .before .fits .e) in
-    cc (e, c .before .nearest-i64-to-f64 .ensures, c .ln-sum .ensures, one-is, two-is)
+    cc (e, c .before .float-of .ensures, c .ln-sum .ensures, one-is, two-is)
 
 pub ln-at-spec : {M : Type 1} → statement M
-ln-at-spec = tie.close (tie.spec nearest-i64-to-f64-requires ln-sum-requires float-from-bits-result float-from-bits-result-2 returns)
+ln-at-spec = tie.close (tie.spec float-of-requires ln-sum-requires float-from-bits-result float-from-bits-result-2 returns)

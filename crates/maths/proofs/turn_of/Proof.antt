@@ -46,7 +46,7 @@ quarter-of-requires : tie.Need-quarter-of-requires
 quarter-of-requires c κs = rw (n-is c) (c .turns-of .ensures .1)
 
 rest-of-requires : tie.Need-rest-of-requires
-rest-of-requires c κs = search needs
+rest-of-requires c κs = rw (n-is (c .before)) (c .before .turns-of .ensures .1)
 
 returns-3 : tie.Need-returns-3
 unfolding turnOf if_then_else_

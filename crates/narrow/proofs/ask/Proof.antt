@@ -12,7 +12,12 @@ returns c = simp (sym (c .before .before .is-empty .ensures), sym (c .before .is
 
 returns-2 : tie.Need-returns-2
 unfolding askOf if_then_else_
-returns-2 c = simp (sym (c .before .before .before .before .before .is-empty .ensures), sym (c .before .before .before .before .is-empty2 .ensures), c .before .before .before .if1 .left, sym (c .before .before .has-ln .ensures), c .before .if2 .taken, c .ask-real .ensures)
+returns-2 c =
+    let n = c .before .before .before .before .before in
+    simp (sym (n .before .before .is-empty .ensures), sym (n .before .is-empty2 .ensures), n .if1 .left, sym (c .before .before .before .before .has-ln .ensures), c .before .before .before .if2 .taken, c .ask-real .ensures)
+
+ask-real-requires : tie.Need-ask-real-requires
+ask-real-requires c κs = (c .before .exp .ensures, c .ln .ensures)
 
 returns-3 : tie.Need-returns-3
 unfolding askOf if_then_else_
@@ -27,5 +32,7 @@ ask-spec =
     returns
     (λ c κs. search needs)
     (λ c κs. search needs)
+    (λ c κs. search needs)
+    ask-real-requires
     returns-2
     returns-3)

@@ -1,40 +1,33 @@
 -- `point::eval_real` meets its contract. Assumes nothing.
+use Rattle.point.proofs.eval_real.Statement.{statement}
+use Rattle.point.proofs.eval_real.Tie as tie
 use mathlib.Core.Path.{sym, _∙_}
 use borrow.Author.Needs.{needs}
 use Rattle.point.specs.declared.eval.Evaluated.{Evaluated}
 use Rattle.point.proofs.Answers.{eval-refused, eval-valid, eval-answered}
-use Rattle.point.proofs.eval_real.Statement.{statement}
-use Rattle.point.proofs.eval_real.Tie as tie
-
-eval-refusal-requires : tie.Need-eval-refusal-requires
-eval-refusal-requires c κs = search needs
 
 returns : tie.Need-returns
-returns c = eval-refused _ _ _ _ (c .before .eval-refusal .ensures) (c .if1 .taken)
+returns c = eval-refused _ _ _ _ (c .before .before .eval-tested .ensures .0) (c .if1 .taken)
 
 eval-usual-requires : tie.Need-eval-usual-requires
-eval-usual-requires c κs = eval-valid _ _ _ _ (c .before .eval-refusal .ensures) (c .if1 .left)
-
-enum-known-v : tie.Need-enum-known-v
-enum-known-v c = search needs
-
-enum-known-e : tie.Need-enum-known-e
-enum-known-e c = search needs
+eval-usual-requires c κs =
+    let t = c .before .before in
+    (eval-valid _ _ _ _ (t .eval-tested .ensures .0) (c .if1 .left), t .eval-tested .ensures .1 (c .if1 .left))
 
 returns-2 : tie.Need-returns-2
-returns-2 c = eval-answered _ _ _ _ (c .before .before .before .before .before .eval-refusal .ensures) (c .before .before .before .before .if1 .left) (Evaluated.Value _) (sym (c .before .v .given .1) ∙ c .before .before .before .eval-usual .ensures)
+returns-2 c = eval-answered _ _ _ _ (c .before .before .before .before .before .before .eval-tested .ensures .0) (c .before .before .before .before .if1 .left) (Evaluated.Value _) (sym (c .before .v .given .1) ∙ c .before .before .before .eval-usual .ensures)
 
 returns-3 : tie.Need-returns-3
-returns-3 c = eval-answered _ _ _ _ (c .before .before .before .before .before .eval-refusal .ensures) (c .before .before .before .before .if1 .left) (Evaluated.Failed _) (sym (c .before .e .given .1) ∙ c .before .before .before .eval-usual .ensures)
+returns-3 c = eval-answered _ _ _ _ (c .before .before .before .before .before .before .eval-tested .ensures .0) (c .before .before .before .before .if1 .left) (Evaluated.Failed _) (sym (c .before .e .given .1) ∙ c .before .before .before .eval-usual .ensures)
 
 pub eval-real-spec : {M : Type 1} → statement M
 eval-real-spec =
     tie.close
     (tie.spec
-    eval-refusal-requires
+    (λ c κs. search needs)
     returns
     eval-usual-requires
-    enum-known-v
-    enum-known-e
+    (λ c. search needs)
+    (λ c. search needs)
     returns-2
     returns-3)

@@ -1,66 +1,51 @@
 -- `point::residual` meets its contract. Assumes nothing.
+use Rattle.point.proofs.residual.Statement.{statement}
+use Rattle.point.proofs.residual.Tie as tie
 use mathlib.Core.Path.{refl}
 use borrow.Author.Needs.{needs}
 use denote.Ref.{now}
 use Rattle.point.proofs.Answers.{residual-refused, residual-over, residual-done, some-record, last-ready, short-lent, lent}
-use Rattle.point.proofs.residual.Statement.{statement}
-use Rattle.point.proofs.residual.Tie as tie
-
-test-given-requires : tie.Need-test-given-requires
-test-given-requires c κs = search needs
 
 returns : tie.Need-returns
-returns c = residual-refused _ _ _ _ (c .before .test-given .ensures .0) (c .if1 .taken)
+returns c = residual-refused _ _ _ _ (c .before .before .test-sized .ensures .0) (c .if1 .taken)
 
 returns-2 : tie.Need-returns-2
-returns-2 c = residual-over _ _ _ _ (c .before .before .test-given .ensures .0) (c .before .if1 .left) (c .if2 .taken)
+returns-2 c = residual-over _ _ _ _ (c .before .before .before .test-sized .ensures .0) (c .before .if1 .left) (c .if2 .taken)
 
 sub-last : tie.Need-sub-last
-sub-last c = let s = c .before .before .before .before .before .before .before in some-record (now (s .args .nodes)) (now (s .args .constraints)) (now (s .args .point)) _ (c .before .before .test-given .ensures .0) (c .before .if1 .left)
-
-usual-requires : tie.Need-usual-requires
-usual-requires c κs = search needs
-
-slice-aggregate-evaluate-constraint-residual :
-    tie.Need-slice-aggregate-evaluate-constraint-residual
-slice-aggregate-evaluate-constraint-residual c = search needs
+sub-last c =
+    let s = c .before .before .before .before .before .before .before .before in
+    some-record (now (s .args .nodes)) (now (s .args .constraints)) (now (s .args .point)) _ (c .before .before .before .test-sized .ensures .0) (c .before .if1 .left)
 
 evaluate-constraint-residual-requires : tie.Need-evaluate-constraint-residual-requires
 evaluate-constraint-residual-requires c κs =
-    let s = c .before .before .before .before .before .before .before .before .before .before .before in
-    (last-ready (now (s .args .nodes)) (now (s .args .constraints)) (now (s .args .point)) _ (c .before .before .before .before .before .before .test-given .ensures .0) (c .before .before .before .before .before .if1 .left) _ _ refl (c .before .before .before .before .before .before .test-given .ensures .1), short-lent _ _ _ (c .before .before .before .before .if2 .left) (c .before .before .before .if3 .taken) refl)
+    let s = c .before .before .before .before .before .before .before .before .before .before .before .before .before in
+    (last-ready (now (s .args .nodes)) (now (s .args .constraints)) (now (s .args .point)) _ (c .before .before .before .before .before .before .before .before .test-sized .ensures .0) (c .before .before .before .before .before .before .if1 .left) _ _ refl (c .before .before .before .before .before .before .before .before .test-sized .ensures .1 .0), short-lent _ _ _ (c .before .before .before .before .before .if2 .left) _ (c .before .before .before .before .before .before .before .before .test-sized .ensures .1 .1 (c .before .before .before .before .before .before .if1 .left)) (c .before .before .before .if3 .taken) refl)
 
 returns-3 : tie.Need-returns-3
-returns-3 c = residual-done _ _ _ _ (c .before .before .before .before .before .before .before .before .test-given .ensures .0) (c .before .before .before .before .before .before .before .if1 .left) (c .before .before .before .before .before .before .if2 .left) _ (c .before .before .before .usual .ensures) _ (c .before .evaluate-constraint-residual .ensures)
-
-usual-requires-2 : tie.Need-usual-requires-2
-usual-requires-2 c κs = search needs
-
-slice-aggregate-evaluate-constraint-residual-2 :
-    tie.Need-slice-aggregate-evaluate-constraint-residual-2
-slice-aggregate-evaluate-constraint-residual-2 c = search needs
+returns-3 c = residual-done _ _ _ _ (c .before .before .before .before .before .before .before .before .before .before .test-sized .ensures .0) (c .before .before .before .before .before .before .before .before .if1 .left) (c .before .before .before .before .before .before .before .if2 .left) _ (c .before .before .before .usual .ensures) _ (c .before .evaluate-constraint-residual .ensures)
 
 evaluate-constraint-residual-requires-2 : tie.Need-evaluate-constraint-residual-requires-2
 evaluate-constraint-residual-requires-2 c κs =
-    let s = c .before .before .before .before .before .before .before .before .before .before .before in
-    (last-ready (now (s .args .nodes)) (now (s .args .constraints)) (now (s .args .point)) _ (c .before .before .before .before .before .before .test-given .ensures .0) (c .before .before .before .before .before .if1 .left) _ _ refl (c .before .before .before .before .before .before .test-given .ensures .1), lent _ _ _ (c .before .before .before .before .if2 .left) refl)
+    let s = c .before .before .before .before .before .before .before .before .before .before .before .before .before in
+    (last-ready (now (s .args .nodes)) (now (s .args .constraints)) (now (s .args .point)) _ (c .before .before .before .before .before .before .before .before .test-sized .ensures .0) (c .before .before .before .before .before .before .if1 .left) _ _ refl (c .before .before .before .before .before .before .before .before .test-sized .ensures .1 .0), lent _ _ _ (c .before .before .before .before .before .if2 .left) refl)
 
 returns-4 : tie.Need-returns-4
-returns-4 c = residual-done _ _ _ _ (c .before .before .before .before .before .before .before .before .test-given .ensures .0) (c .before .before .before .before .before .before .before .if1 .left) (c .before .before .before .before .before .before .if2 .left) _ (c .before .before .before .usual2 .ensures) _ (c .before .evaluate-constraint-residual2 .ensures)
+returns-4 c = residual-done _ _ _ _ (c .before .before .before .before .before .before .before .before .before .before .test-sized .ensures .0) (c .before .before .before .before .before .before .before .before .if1 .left) (c .before .before .before .before .before .before .before .if2 .left) _ (c .before .before .before .usual2 .ensures) _ (c .before .evaluate-constraint-residual2 .ensures)
 
 pub residual-spec : {M : Type 1} → statement M
 residual-spec =
     tie.close
     (tie.spec
-    test-given-requires
+    (λ c κs. search needs)
     returns
     returns-2
     sub-last
-    usual-requires
-    slice-aggregate-evaluate-constraint-residual
+    (λ c κs. search needs)
+    (λ c. search needs)
     evaluate-constraint-residual-requires
     returns-3
-    usual-requires-2
-    slice-aggregate-evaluate-constraint-residual-2
+    (λ c κs. search needs)
+    (λ c. search needs)
     evaluate-constraint-residual-requires-2
     returns-4)

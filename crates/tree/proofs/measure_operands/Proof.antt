@@ -1,17 +1,17 @@
 -- `tree::measure_operands` meets its contract: each way out is the next refusal in order. Assumes nothing.
+use borrow.Author.Needs.{needs}
+use Rattle.tree.proofs.measure_operands.Statement.{statement}
+use Rattle.tree.proofs.measure_operands.Tie as tie
 use Prim.Native.Nat.{_≤_, ℕ, _<_}
-use mathlib.Core.Path.{_∙_, refl, sym}
+use mathlib.Core.Path.{_∙_, sym}
 use native.Mathlib.Omega.{arith}
 use borrow.Author.Tests.{not-true, not-false}
-use borrow.Author.Needs.{needs}
 use denote.Ref.{now}
 use lib.ListN.{getD}
 use Rattle.tree.specs.NodeLaws.{fit-parts}
 use Rattle.tree.specs.Nodes.{treeAt}
 use Rattle.tree.specs.Code.{Measured}
 use Rattle.tree.proofs.Append.{no-list, bad-list, no-x, no-y, named, valid, measured}
-use Rattle.tree.proofs.measure_operands.Statement.{statement}
-use Rattle.tree.proofs.measure_operands.Tie as tie
 
 returns : tie.Need-returns
 returns c = (
@@ -22,54 +22,46 @@ returns c = (
 test-nodes-requires : tie.Need-test-nodes-requires
 test-nodes-requires c κs =
     let w = fit-parts _ _ (sym (c .before .before .before .nodes-fit .ensures) ∙ not-false _ (c .before .before .if1 .left)) in
-    (w .0, w .1, refl, refl)
+    (w .0, w .1, w .0, w .0)
 
 returns-2 : tie.Need-returns-2
-returns-2 c =
-    let at5 = c .before .before .before .before .before in (
-      c .refused2 .ensures ∙ bad-list _ _ _ _ (sym (at5 .before .nodes-fit .ensures) ∙ not-false _ (at5 .if1 .left)) _ (c .before .before .test-nodes .ensures .0) (c .before .if2 .taken),
-      λ z. absurd (c .before .if2 .taken (sym (c .refused2 .ensures) ∙ z)),
-    )
+returns-2 c = (
+  c .refused2 .ensures ∙ bad-list _ _ _ _ (sym (c .before .before .before .before .before .before .before .before .nodes-fit .ensures) ∙ not-false _ (c .before .before .before .before .before .before .before .if1 .left)) _ (c .before .before .before .before .test-nodes .ensures .0) (c .before .if2 .taken),
+  λ z. absurd (c .before .if2 .taken (sym (c .refused2 .ensures) ∙ z)),
+)
 
 returns-3 : tie.Need-returns-3
-returns-3 c =
-    let at6 = c .before .before .before .before .before .before in (
-      c .refused3 .ensures ∙ no-x _ _ _ _ (sym (at6 .before .nodes-fit .ensures) ∙ not-false _ (at6 .if1 .left)) (sym (c .before .before .if2 .left) ∙ c .before .before .before .test-nodes .ensures .0) (c .before .if3 .taken),
-      λ z. absurd (omega (arith, c .refused3 .ensures)),
-    )
+returns-3 c = (
+  c .refused3 .ensures ∙ no-x _ _ _ _ (sym (c .before .before .before .before .before .before .before .before .before .nodes-fit .ensures) ∙ not-false _ (c .before .before .before .before .before .before .before .before .if1 .left)) (sym (c .before .before .if2 .left) ∙ c .before .before .before .before .before .test-nodes .ensures .0) (c .before .if3 .taken),
+  λ z. absurd (omega (arith, c .refused3 .ensures)),
+)
 
 returns-4 : tie.Need-returns-4
-returns-4 c =
-    let at4 = c .before .before .before .before in
-    let at8 = at4 .before .before .before .before in (
-      c .refused4 .ensures ∙ no-y _ _ _ _ (sym (at8 .nodes-fit .ensures) ∙ not-false _ (at4 .before .before .before .if1 .left)) (sym (c .before .before .before .if2 .left) ∙ at4 .test-nodes .ensures .0) (c .before .before .if3 .left) (c .before .if4 .taken),
-      λ z. absurd (omega (arith, c .refused4 .ensures)),
-    )
+returns-4 c = (
+  c .refused4 .ensures ∙ no-y _ _ _ _ (sym (c .before .before .before .before .before .before .before .before .before .before .nodes-fit .ensures) ∙ not-false _ (c .before .before .before .before .before .before .before .before .before .if1 .left)) (sym (c .before .before .before .if2 .left) ∙ c .before .before .before .before .before .before .test-nodes .ensures .0) (c .before .before .if3 .left) (c .before .if4 .taken),
+  λ z. absurd (omega (arith, c .refused4 .ensures)),
+)
 
 -- the arrays have a place for each node of the list
-few : (c : tie.Else4) → let at9 = c .before .before .before .before .before .before .before .before .before in at9 .args .count ≤ 1024
-few c =
-    let at6 = c .before .before .before .before .before .before in
-    fit-parts _ _ (sym (at6 .before .nodes-fit .ensures) ∙ not-false _ (at6 .if1 .left)) .0
+few : (c : tie.Else4) → c .before .before .before .before .before .before .before .before .before .before .before .args .count ≤ 1024
+few c = fit-parts _ _ (sym (c .before .before .before .before .before .before .before .before .before .nodes-fit .ensures) ∙ not-false _ (c .before .before .before .before .before .before .before .before .if1 .left)) .0
 
 -- what the arrays hold of a node of the list
-held : (c : tie.Else4) (i : ℕ) → let at9 = c .before .before .before .before .before .before .before .before .before in i < at9 .args .count →
-    let l = c .before .before .before .test-nodes .last in Measured (treeAt (now (at9 .args .nodes)) i) (record { size = getD (l .1 .1 .0) i 0; depth = getD (l .1 .1 .1 .0) i 0 })
+held : (c : tie.Else4) (i : ℕ) → i < c .before .before .before .before .before .before .before .before .before .before .before .args .count →
+    let l = c .before .before .before .before .before .test-nodes .last in Measured (treeAt (now (c .before .before .before .before .before .before .before .before .before .before .before .args .nodes)) i) (record { size = getD (l .1 .1 .0) i 0; depth = getD (l .1 .1 .1 .0) i 0 })
 held c i h =
-    let at3 = c .before .before .before in
-    let at6 = at3 .before .before .before in
-    let at9 = at6 .before .before .before in
-    let none = sym (c .before .before .if2 .left) ∙ at3 .test-nodes .ensures .0 in
-    let v = valid _ _ (at9 .args .x) (at9 .args .y) (sym (at6 .before .nodes-fit .ensures) ∙ not-false _ (at6 .if1 .left)) none in
-    let e = at3 .test-nodes .ensures .1 in
+    let t = c .before .before .before .before .before in
+    let s = c .before .before .before .before .before .before .before .before .before .before .before in
+    let none = sym (c .before .before .if2 .left) ∙ t .test-nodes .ensures .0 in
+    let v = valid _ _ (s .args .x) (s .args .y) (sym (c .before .before .before .before .before .before .before .before .before .nodes-fit .ensures) ∙ not-false _ (c .before .before .before .before .before .before .before .before .if1 .left)) none in
+    let e = t .test-nodes .ensures .1 in
     measured _ _ none v i h _ (few c) _ _ (e .0) (e .1)
 
 returns-5 : tie.Need-returns-5
-returns-5 c =
-    let at6 = c .before .before .before .before .before .before in (
-      named _ _ _ _ (sym (at6 .before .nodes-fit .ensures) ∙ not-false _ (at6 .if1 .left)) (sym (c .before .before .if2 .left) ∙ c .before .before .before .test-nodes .ensures .0) (c .before .if3 .left) (c .if4 .left),
-      λ _. (held c _ (c .before .if3 .left), held c _ (c .if4 .left)),
-    )
+returns-5 c = (
+  named _ _ _ _ (sym (c .before .before .before .before .before .before .before .before .before .nodes-fit .ensures) ∙ not-false _ (c .before .before .before .before .before .before .before .before .if1 .left)) (sym (c .before .before .if2 .left) ∙ c .before .before .before .before .before .test-nodes .ensures .0) (c .before .if3 .left) (c .if4 .left),
+  λ _. (held c _ (c .before .if3 .left), held c _ (c .if4 .left)),
+)
 
 pub measure-operands-spec : {M : Type 1} → statement M
 measure-operands-spec =
@@ -78,6 +70,8 @@ measure-operands-spec =
     (λ c κs. search needs)
     (λ c κs. search needs)
     returns
+    (λ c. search needs)
+    (λ c. search needs)
     test-nodes-requires
     (λ c κs. search needs)
     returns-2

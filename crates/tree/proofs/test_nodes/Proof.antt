@@ -5,6 +5,7 @@ use mathlib.Core.Bool.{true}
 use native.Mathlib.Omega.{arith}
 use borrow.Author.Tests.{not-true, not-false}
 use denote.Ref.{now}
+use lib.ListN.{length, length-set}
 use Rattle.tree.specs.Tree.{size, depth}
 use Rattle.tree.specs.Refusal.{first, filled}
 use Rattle.tree.specs.Nodes.{treeAt, isNode}
@@ -15,19 +16,19 @@ use Rattle.tree.proofs.test_nodes.Statement.{statement}
 use Rattle.tree.proofs.test_nodes.Tie as tie
 
 abbrev Inv-loop : tie.InvT-loop
-Inv-loop nodes count size₀ depth₀ k₀ size depth k = (k ≤ count) × Passed nodes k size₀ depth₀ size depth
+Inv-loop nodes count size₀ depth₀ k₀ size depth k = (k ≤ count) × Passed nodes k size₀ depth₀ size depth × (length size ≡ length size₀) × (length depth ≡ length depth₀)
 
 abbrev μ-loop : tie.MeasureT-loop
 μ-loop nodes count size₀ depth₀ k₀ size depth k = count - k
 
 -- what `measure` tells, and that the record is a node's
 module _ (c : tie.After-measure Inv-loop μ-loop) where
-  is : isNode (now (c .before .before .before .before .before .before .before .before .before .args .nodes)) (c .before .before .before .before .before .before .before .loop .k) ≡ true
+  is : isNode (now (c .before .before .before .before .before .before .before .before .before .before .before .args .nodes)) (c .before .before .before .before .before .before .before .loop .k) ≡ true
   is = let t = c .before .before .before .before in sym (t .before .is-node .ensures) ∙ not-false _ (t .if1 .left)
 
   measured :
       let l = c .before .before .before .before .before .before .before in
-      let b = now (l .before .before .args .nodes) in
+      let b = now (l .before .before .before .before .args .nodes) in
       (c .measure .result .size ≡ size (treeAt b (l .loop .k))) × (c .measure .result .depth ≡ depth (treeAt b (l .loop .k)))
   measured =
       let at6 = c .before .before .before .before .before .before in
@@ -39,7 +40,7 @@ module _ (c : tie.After-measure Inv-loop μ-loop) where
 
 loop-holds : tie.Need-loop-holds Inv-loop μ-loop
 unfolding first filled
-loop-holds c = (omega arith, record { none = refl; sizes = refl; depths = refl })
+loop-holds c = (omega arith, record { none = refl; sizes = refl; depths = refl }, refl, refl)
 
 returns : tie.Need-returns Inv-loop μ-loop
 returns c =
@@ -73,6 +74,8 @@ loop-again c =
     let w = measured m in (
       omega arith,
       next _ _ _ _ _ _ (at12 .before .loop .inv .1) _ (at12 .loop-test .taken) (omega arith) (omega arith) (is m) _ _ (w .0) (w .1) (c .before .before .before .before .if2 .left) (c .before .before .if3 .left),
+      length-set (at12 .before .loop .size) _ _ ∙ at12 .before .loop .inv .2,
+      length-set (at12 .before .loop .depth) _ _ ∙ at12 .before .loop .inv .3,
     )
 
 returns-4 : tie.Need-returns-4 Inv-loop μ-loop
@@ -86,10 +89,16 @@ test-nodes-spec =
     μ-loop
     loop-holds
     (λ c κs. omega arith)
+    (λ c. c .before .before .before .loop .inv .2)
+    (λ c. c .before .before .before .loop .inv .3)
     returns
     (λ c κs. omega arith)
     measure-requires
+    (λ c. c .before .before .before .before .before .before .before .before .before .loop .inv .2)
+    (λ c. c .before .before .before .before .before .before .before .before .before .loop .inv .3)
     returns-2
+    (λ c. c .before .before .before .before .before .before .before .before .before .before .before .loop .inv .2)
+    (λ c. c .before .before .before .before .before .before .before .before .before .before .before .loop .inv .3)
     returns-3
     (λ c. omega arith)
     (λ c. omega arith)
@@ -99,4 +108,6 @@ test-nodes-spec =
     (λ c. omega arith)
     (λ c. omega arith)
     loop-again
+    (λ c. c .before .loop .inv .2)
+    (λ c. c .before .loop .inv .3)
     returns-4)

@@ -1,12 +1,14 @@
 -- `point::eval::run` meets its contract: at the loop's head, running what is left on the stack's values gives what running all gives.
 -- Assumes nothing.
 use Prim.Native.Nat.{_≤_, _+_, _-_}
-use mathlib.Core.Path.{_≡_, refl, sym, ap, _∙_}
+use mathlib.Core.Path.{_≡_, refl, sym, ap, ap₂, _∙_}
 use mathlib.Core.List.{List, [], _∷_}
 use native.Mathlib.Omega.{arith}
 use borrow.Author.Needs.{needs}
 use lib.ListN.{length, drop}
 use Rattle.point.specs.declared.eval.Instruction.{Instruction}
+use Rattle.point.specs.declared.eval.EvaluatedComplex.{EvaluatedComplex}
+use Rattle.point.specs.Eval.{emlComplex}
 use Rattle.point.specs.Machine.{instructions, instructionOf, run}
 use Rattle.point.proofs.Loop.{State, next, done, fit, one-turn, const-turn, var-turn, var-stop, eml-turn, eml-stop, ended}
 use Rattle.point.proofs.eval.run.Statement.{statement}
@@ -152,41 +154,47 @@ loop-again-3 c = (omega arith, var-turn (c .before .before .before .before .befo
 enum-told-2 : tie.Need-enum-told-2 Inv-loop μ-loop
 enum-told-2 c = search needs
 
-sub-t38 : tie.Need-sub-t38 Inv-loop μ-loop
-sub-t38 c = omega (arith, two-there c)
+sub-complex : tie.Need-sub-complex Inv-loop μ-loop
+sub-complex c = omega (arith, two-there (c))
 
-mul-t39 : tie.Need-mul-t39 Inv-loop μ-loop
-mul-t39 c = omega (arith, two-there c)
+mul-complex : tie.Need-mul-complex Inv-loop μ-loop
+mul-complex c = omega (arith, two-there (c))
 
-slice-read-t41 : tie.Need-slice-read-t41 Inv-loop μ-loop
-slice-read-t41 c = omega (arith, two-there (c .before))
+slice-read-complex : tie.Need-slice-read-complex Inv-loop μ-loop
+slice-read-complex c = omega (arith, two-there (c .before))
 
-sub-t42 : tie.Need-sub-t42 Inv-loop μ-loop
-sub-t42 c = omega (arith, two-there (c .before))
+sub-complex-2 : tie.Need-sub-complex-2 Inv-loop μ-loop
+sub-complex-2 c = omega (arith, two-there (c .before))
 
-mul-t43 : tie.Need-mul-t43 Inv-loop μ-loop
-mul-t43 c = omega (arith, two-there (c .before))
+mul-complex-2 : tie.Need-mul-complex-2 Inv-loop μ-loop
+mul-complex-2 c = omega (arith, two-there (c .before))
 
-slice-read-t45 : tie.Need-slice-read-t45 Inv-loop μ-loop
-slice-read-t45 c = omega (arith, two-there (c .before .before))
+slice-read-complex-2 : tie.Need-slice-read-complex-2 Inv-loop μ-loop
+slice-read-complex-2 c = omega (arith, two-there (c .before .before))
 
-sub-t38-2 : tie.Need-sub-t38-2 Inv-loop μ-loop
-sub-t38-2 c = omega (arith, two-there (c .before .before))
+complex-requires : tie.Need-complex-requires Inv-loop μ-loop
+complex-requires c κs = search needs
 
-mul-t39-2 : tie.Need-mul-t39-2 Inv-loop μ-loop
-mul-t39-2 c = omega (arith, two-there (c .before .before))
+sub-complex-3 : tie.Need-sub-complex-3 Inv-loop μ-loop
+sub-complex-3 c = omega (arith, two-there (c .before .before .before))
 
-slice-read-t45-2 : tie.Need-slice-read-t45-2 Inv-loop μ-loop
-slice-read-t45-2 c = omega (arith, two-there (c .before .before .before))
+mul-complex-3 : tie.Need-mul-complex-3 Inv-loop μ-loop
+mul-complex-3 c = omega (arith, two-there (c .before .before .before))
 
-sub-t42-2 : tie.Need-sub-t42-2 Inv-loop μ-loop
-sub-t42-2 c = omega (arith, two-there (c .before .before .before))
+slice-read-complex-3 : tie.Need-slice-read-complex-3 Inv-loop μ-loop
+slice-read-complex-3 c = omega (arith, two-there (c .before .before .before .before))
 
-mul-t43-2 : tie.Need-mul-t43-2 Inv-loop μ-loop
-mul-t43-2 c = omega (arith, two-there (c .before .before .before))
+sub-complex-4 : tie.Need-sub-complex-4 Inv-loop μ-loop
+sub-complex-4 c = omega (arith, two-there (c .before .before .before .before))
 
-slice-read-t41-2 : tie.Need-slice-read-t41-2 Inv-loop μ-loop
-slice-read-t41-2 c = omega (arith, two-there (c .before .before .before .before))
+mul-complex-4 : tie.Need-mul-complex-4 Inv-loop μ-loop
+mul-complex-4 c = omega (arith, two-there (c .before .before .before .before))
+
+slice-read-complex-4 : tie.Need-slice-read-complex-4 Inv-loop μ-loop
+slice-read-complex-4 c = omega (arith, two-there (c .before .before .before .before .before))
+
+complex-requires-2 : tie.Need-complex-requires-2 Inv-loop μ-loop
+complex-requires-2 c κs = search needs
 
 eml-complex-requires : tie.Need-eml-complex-requires Inv-loop μ-loop
 eml-complex-requires c κs = search needs
@@ -198,55 +206,58 @@ enum-told-3 : tie.Need-enum-told-3 Inv-loop μ-loop
 enum-told-3 c = search needs
 
 same-length-3 : tie.Need-same-length-3 Inv-loop μ-loop
-same-length-3 c = c .before .before .before .before .before .before .before .before .before .before .before .before .before .loop .inv .1 .long-re
+same-length-3 c = c .before .before .before .before .before .before .before .before .before .before .before .before .before .before .before .loop .inv .1 .long-re
 
 same-length-4 : tie.Need-same-length-4 Inv-loop μ-loop
-same-length-4 c = c .before .before .before .before .before .before .before .before .before .before .before .before .before .loop .inv .1 .long-im ∙ sym (c .before .before .before .before .before .before .before .before .before .before .before .before .before .before .before .before .before .before .before .pre .same)
+same-length-4 c = c .before .before .before .before .before .before .before .before .before .before .before .before .before .before .before .loop .inv .1 .long-im ∙ sym (c .before .before .before .before .before .before .before .before .before .before .before .before .before .before .before .before .before .before .before .before .before .pre .same)
 
 returns-2 : tie.Need-returns-2 Inv-loop μ-loop
-returns-2 c = eml-stop (c .before .before .before .before .before .before .before .before .before .before .before .before .before .loop .inv .1) (told (c .before .before .before .before .before .before .before .before .before) _ (c .before .before .before .before .before .before .before .enum-told2 .given .1)) (c .before .before .eml-complex .ensures) (c .before .match2 .keys2)
+returns-2 c = eml-stop (c .before .before .before .before .before .before .before .before .before .before .before .before .before .before .before .loop .inv .1) (told (c .before .before .before .before .before .before .before .before .before .before .before) _ (c .before .before .before .before .before .before .before .before .before .enum-told2 .given .1)) (c .before .before .eml-complex .ensures ∙ ap₂ (emlComplex _) (c .before .before .before .complex2 .ensures) (c .before .before .before .before .before .before .complex .ensures)) (c .before .match2 .keys2)
 
 sub-re : tie.Need-sub-re Inv-loop μ-loop
-sub-re c = omega (arith, two-there (c .before .before .before .before .before .before .before .before))
+sub-re c = omega (arith, two-there (c .before .before .before .before .before .before .before .before .before .before))
 
 mul-re-5 : tie.Need-mul-re-5 Inv-loop μ-loop
-mul-re-5 c = omega (arith, two-there (c .before .before .before .before .before .before .before .before))
+mul-re-5 c = mul-complex-3 (c .before .before .before .before .before .before .before)
 
 slice-write-re-4 : tie.Need-slice-write-re-4 Inv-loop μ-loop
-slice-write-re-4 c = omega (arith, two-there (c .before .before .before .before .before .before .before .before))
+slice-write-re-4 c = omega (arith, two-there (c .before .before .before .before .before .before .before .before .before .before))
 
 sub-im : tie.Need-sub-im Inv-loop μ-loop
-sub-im c = omega (arith, two-there (c .before .before .before .before .before .before .before .before))
+sub-im c = omega (arith, two-there (c .before .before .before .before .before .before .before .before .before .before))
 
 mul-im-4 : tie.Need-mul-im-4 Inv-loop μ-loop
-mul-im-4 c = omega (arith, two-there (c .before .before .before .before .before .before .before .before))
+mul-im-4 c = mul-complex-3 (c .before .before .before .before .before .before .before)
 
 slice-write-im-4 : tie.Need-slice-write-im-4 Inv-loop μ-loop
-slice-write-im-4 c = omega (arith, two-there (c .before .before .before .before .before .before .before .before))
+slice-write-im-4 c = omega (arith, two-there (c .before .before .before .before .before .before .before .before .before .before))
 
 sub-top : tie.Need-sub-top Inv-loop μ-loop
-sub-top c = omega (arith, two-there (c .before .before .before .before .before .before .before .before))
+sub-top c = omega (arith, two-there (c .before .before .before .before .before .before .before .before .before .before))
 
 loop-less-4 : tie.Need-loop-less-4 Inv-loop μ-loop
 loop-less-4 c = search needs
 
 loop-again-4 : tie.Need-loop-again-4 Inv-loop μ-loop
-loop-again-4 c = (omega arith, eml-turn (c .before .before .before .before .before .before .before .before .before .before .before .before .before .before .loop .inv .1) (told (c .before .before .before .before .before .before .before .before .before .before) _ (c .before .before .before .before .before .before .before .before .enum-told2 .given .1)) (sym (c .before .before .before .eml-complex .ensures) ∙ c .before .out .given .1))
+loop-again-4 c = (omega arith, eml-turn (c .before .before .before .before .before .before .before .before .before .before .before .before .before .before .before .before .loop .inv .1) (told (c .before .before .before .before .before .before .before .before .before .before .before .before) _ (c .before .before .before .before .before .before .before .before .before .before .enum-told2 .given .1)) (sym (c .before .before .before .eml-complex .ensures ∙ ap₂ (emlComplex _) (c .before .before .before .before .complex2 .ensures) (c .before .before .before .before .before .before .before .complex .ensures)) ∙ c .before .out .given .1))
 
-slice-read-t51 : tie.Need-slice-read-t51 Inv-loop μ-loop
-slice-read-t51 c = omega (arith, (ended (c .before .before .loop .inv .1) (done _ _ _ (c .before .before .before .before .before .before .before .before .pre .within) _ (c .before .loop-test .left) (c .before .before .loop .inv .0))) .0, c .before .before .loop .inv .1 .long-re)
+slice-read-complex-5 : tie.Need-slice-read-complex-5 Inv-loop μ-loop
+slice-read-complex-5 c = omega (arith, (ended (c .before .before .loop .inv .1) (done _ _ _ (c .before .before .before .before .before .before .before .before .pre .within) _ (c .before .loop-test .left) (c .before .before .loop .inv .0))) .0, c .before .before .loop .inv .1 .long-re)
 
-slice-read-t53 : tie.Need-slice-read-t53 Inv-loop μ-loop
-slice-read-t53 c = omega (arith, (ended (c .before .before .before .loop .inv .1) (done _ _ _ (c .before .before .before .before .before .before .before .before .before .pre .within) _ (c .before .before .loop-test .left) (c .before .before .before .loop .inv .0))) .0, c .before .before .before .loop .inv .1 .long-im)
+slice-read-complex-6 : tie.Need-slice-read-complex-6 Inv-loop μ-loop
+slice-read-complex-6 c = omega (arith, (ended (c .before .before .before .loop .inv .1) (done _ _ _ (c .before .before .before .before .before .before .before .before .before .pre .within) _ (c .before .before .loop-test .left) (c .before .before .before .loop .inv .0))) .0, c .before .before .before .loop .inv .1 .long-im)
+
+complex-requires-3 : tie.Need-complex-requires-3 Inv-loop μ-loop
+complex-requires-3 c κs = search needs
 
 same-length-5 : tie.Need-same-length-5 Inv-loop μ-loop
-same-length-5 c = c .before .before .before .loop .inv .1 .long-re
+same-length-5 c = c .before .before .before .before .loop .inv .1 .long-re
 
 same-length-6 : tie.Need-same-length-6 Inv-loop μ-loop
-same-length-6 c = c .before .before .before .loop .inv .1 .long-im ∙ sym (c .before .before .before .before .before .before .before .before .before .pre .same)
+same-length-6 c = c .before .before .before .before .loop .inv .1 .long-im ∙ sym (c .before .before .before .before .before .before .before .before .before .before .pre .same)
 
 returns-3 : tie.Need-returns-3 Inv-loop μ-loop
-returns-3 c = (ended (c .before .before .before .loop .inv .1) (done _ _ _ (c .before .before .before .before .before .before .before .before .before .pre .within) _ (c .before .before .loop-test .left) (c .before .before .before .loop .inv .0))) .1
+returns-3 c = ap EvaluatedComplex.Value (c .complex3 .ensures) ∙ (ended (c .before .before .before .before .loop .inv .1) (done _ _ _ (c .before .before .before .before .before .before .before .before .before .before .pre .within) _ (c .before .before .before .loop-test .left) (c .before .before .before .before .loop .inv .0))) .1
 
 pub run-spec : {M : Type 1} → statement M
 run-spec =
@@ -291,18 +302,20 @@ run-spec =
     loop-less-3
     loop-again-3
     enum-told-2
-    sub-t38
-    mul-t39
-    slice-read-t41
-    sub-t42
-    mul-t43
-    slice-read-t45
-    sub-t38-2
-    mul-t39-2
-    slice-read-t45-2
-    sub-t42-2
-    mul-t43-2
-    slice-read-t41-2
+    sub-complex
+    mul-complex
+    slice-read-complex
+    sub-complex-2
+    mul-complex-2
+    slice-read-complex-2
+    complex-requires
+    sub-complex-3
+    mul-complex-3
+    slice-read-complex-3
+    sub-complex-4
+    mul-complex-4
+    slice-read-complex-4
+    complex-requires-2
     eml-complex-requires
     enum-known-out
     enum-told-3
@@ -318,8 +331,9 @@ run-spec =
     sub-top
     loop-less-4
     loop-again-4
-    slice-read-t51
-    slice-read-t53
+    slice-read-complex-5
+    slice-read-complex-6
+    complex-requires-3
     same-length-5
     same-length-6
     returns-3)

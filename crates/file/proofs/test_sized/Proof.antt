@@ -1,0 +1,38 @@
+-- `file::test_sized` meets its contract: each way out is the next refusal in order. Assumes nothing.
+use borrow.Author.Needs.{needs}
+use Rattle.file.proofs.test_sized.Statement.{statement}
+use Rattle.file.proofs.test_sized.Tie as tie
+use native.Mathlib.Omega.{arith}
+use denote.Ref.{now}
+use Rattle.file.specs.FileLaws.{counted}
+use Rattle.file.specs.File.{isCounted}
+use Rattle.file.proofs.Parts.{given-nodes, given-records, not-counted}
+
+returns : tie.Need-returns
+unfolding isCounted
+returns c =
+    let w = given-nodes _ _ _ (c .before .before .before .if1 .taken) _ (c .before .before .test-sizes .ensures .0) (c .if2 .taken) in
+    (w .0, (w .1, λ z. absurd (c .if2 .taken z)))
+
+test-records-requires : tie.Need-test-records-requires
+unfolding isCounted
+test-records-requires c κs =
+    let s = c .before .before .before .before .before .before .before in
+    let w = counted (now (s .args .nodes)) (now (s .args .constraints)) (c .before .before .before .before .if1 .taken) in
+    (w .1, omega arith, s .pre)
+
+returns-2 : tie.Need-returns-2
+unfolding isCounted
+returns-2 c =
+    let w = given-records _ _ _ (c .before .before .before .before .before .if1 .taken) _ (c .before .before .before .before .test-sizes .ensures .0) (c .before .before .if2 .left) _ _ (c .test-records .ensures .0) (c .test-records .ensures .1) in
+    (w .0, (w .1, λ z. c .before .before .before .before .test-sizes .ensures .1 (c .before .before .if2 .left)))
+
+returns-3 : tie.Need-returns-3
+unfolding isCounted
+returns-3 c =
+    let w = not-counted _ _ _ (c .if1 .left) in
+    (w .0, (w .1, λ z. absurd (omega (arith, z))))
+
+pub test-sized-spec : {M : Type 1} → statement M
+test-sized-spec =
+    tie.close (tie.spec (λ c κs. search needs) returns test-records-requires returns-2 returns-3)

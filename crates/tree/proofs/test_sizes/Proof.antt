@@ -1,0 +1,43 @@
+-- `tree::test_sizes` meets its contract. Assumes nothing.
+use borrow.Author.Needs.{needs}
+use Rattle.tree.proofs.test_sizes.Statement.{statement}
+use Rattle.tree.proofs.test_sizes.Tie as tie
+use mathlib.Core.Path.{sym, _∙_}
+use native.Mathlib.Omega.{arith}
+use borrow.Author.Tests.{not-true, not-false}
+use Rattle.tree.specs.NodeLaws.{fit-parts}
+use Rattle.tree.proofs.Nodes.{no-fit, fitting}
+
+returns : tie.Need-returns
+returns c = (no-fit _ _ (sym (c .before .nodes-fit .ensures) ∙ not-true _ (c .if1 .taken)), λ z. absurd (omega (arith, z)))
+
+test-in-requires : tie.Need-test-in-requires
+test-in-requires c κs =
+    let w = fit-parts _ _ (sym (c .before .before .before .before .nodes-fit .ensures) ∙ not-false _ (c .before .before .before .if1 .left)) in
+    (w .0, w .1, c .before .before .if2 .taken, c .before .before .if2 .taken)
+
+returns-2 : tie.Need-returns-2
+returns-2 c = (c .before .before .test-in .ensures .0 ∙ fitting _ _ (sym (c .before .before .before .before .before .before .before .nodes-fit .ensures) ∙ not-false _ (c .before .before .before .before .before .before .if1 .left)), c .before .before .test-in .ensures .1)
+
+test-in-requires-2 : tie.Need-test-in-requires-2
+test-in-requires-2 c κs =
+    let w = fit-parts _ _ (sym (c .before .before .before .before .nodes-fit .ensures) ∙ not-false _ (c .before .before .before .if1 .left)) in
+    (w .0, w .1, w .0, w .0)
+
+returns-3 : tie.Need-returns-3
+returns-3 c = (c .before .before .test-in2 .ensures .0 ∙ fitting _ _ (sym (c .before .before .before .before .before .before .before .nodes-fit .ensures) ∙ not-false _ (c .before .before .before .before .before .before .if1 .left)), c .before .before .test-in2 .ensures .1)
+
+pub test-sizes-spec : {M : Type 1} → statement M
+test-sizes-spec =
+    tie.close
+    (tie.spec
+    (λ c κs. search needs)
+    returns
+    (λ c. search needs)
+    (λ c. search needs)
+    test-in-requires
+    returns-2
+    (λ c. search needs)
+    (λ c. search needs)
+    test-in-requires-2
+    returns-3)
