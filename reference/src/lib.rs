@@ -3,7 +3,8 @@
 //! `tree`, `canonical`, `eval`, `error` and `smt` are the taken functions of the source, with document 01's stand-ins in
 //! the places of the library calls (REPLACED.md lists them). `standins` are these stand-ins. `counted` is `solve` with its
 //! stop word and count of halvings. `house` reads the house file, `generate` makes problems and damage, `replay` makes the
-//! cases of the program `table`, `printed` the printing program's lines, and `port` calls the static library of the proved code.
+//! cases of the program `table`, `printed` the printing program's lines, and `port` adds to the bindings
+//! of the proved code what the comparison looks at beside the answers.
 
 pub mod canonical;
 pub mod compare;

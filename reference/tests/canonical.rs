@@ -1,5 +1,6 @@
 //! Canonical and the comparisons against the Rust's trees.
 
+use eml::calls;
 use reference::canonical::Canonical;
 use reference::compare::Tally;
 use reference::generate::{self, Shape};
@@ -112,7 +113,7 @@ fn canonical() {
 
         let made = |trees: &[EmlTree]| Canonical::ln(&trees[x]);
         let mut after = list.bytes.clone();
-        let ours = port::canonical_ln(&mut after, count, x);
+        let ours = eml::canonical::ln(&mut after, count, x);
         let number = append_refusal(&list, &[x], made, 4);
         match ours {
             Err(_) => assert_eq!(after, list.bytes),
@@ -121,12 +122,12 @@ fn canonical() {
                 check_appended(&list, &after, 4, made);
             }
         }
-        assert_eq!(ours.err().unwrap_or(0), number);
+        assert_eq!(port::number(ours), number);
         lns.add(number);
 
         let made = |trees: &[EmlTree]| Canonical::sub(&trees[x], &trees[y]);
         let mut after = list.bytes.clone();
-        let ours = port::canonical_sub(&mut after, count, x, y);
+        let ours = eml::canonical::sub(&mut after, count, x, y);
         let number = append_refusal(&list, &[x, y], made, 7);
         match ours {
             Err(_) => assert_eq!(after, list.bytes),
@@ -135,23 +136,23 @@ fn canonical() {
                 check_appended(&list, &after, 7, made);
             }
         }
-        assert_eq!(ours.err().unwrap_or(0), number);
+        assert_eq!(port::number(ours), number);
         subs.add(number);
     }
     lns.done(&[0, 2, 3, 4, 10], 100);
     subs.done(&[0, 2, 3, 4, 10], 100);
 }
 
-type Compare = fn(&mut [u8], usize, usize, usize, &mut [u8]) -> u8;
+type Compare = fn(&mut [u8], usize, usize, usize, &mut [u8]) -> Result<(), eml::Refusal>;
 type Atom = fn(EmlTree, EmlTree) -> EmlConstraint;
 
 #[test]
 fn comparisons() {
     let calls: [(Compare, Atom); 4] = [
-        (port::lt, EmlConstraint::lt),
-        (port::le, EmlConstraint::le),
-        (port::gt, EmlConstraint::gt),
-        (port::ge, EmlConstraint::ge),
+        (calls::lt, EmlConstraint::lt),
+        (calls::le, EmlConstraint::le),
+        (calls::gt, EmlConstraint::gt),
+        (calls::ge, EmlConstraint::ge),
     ];
     let mut rng = SplitMix64::new(35);
     let mut tally = Tally::new("lt, le, gt, ge");
@@ -166,7 +167,7 @@ fn comparisons() {
         };
         let before: Vec<u8> = (0..room).map(|_| rng.draw() as u8).collect();
         let (mut after, mut record) = (list.bytes.clone(), before.clone());
-        let number = ours(&mut after, count, x, y, &mut record);
+        let number = port::number(ours(&mut after, count, x, y, &mut record));
         let made = |trees: &[EmlTree]| Canonical::sub(&trees[x], &trees[y]);
         let expected = match append_refusal(&list, &[x, y], made, 7) {
             0 if room < 24 => 10,

@@ -1,7 +1,6 @@
 //! Interval's methods against the Rust's, on any f64: NaN, infinities and reversed ends too.
 
 use reference::compare::Comparison;
-use reference::port;
 use reference::smt::interval::Interval;
 use reference::splitmix::{SPECIALS, SplitMix64};
 
@@ -9,6 +8,10 @@ use reference::splitmix::{SPECIALS, SplitMix64};
 const ENOUGH: u64 = 1_000_000;
 
 fn ends(i: Interval) -> [f64; 2] {
+    [i.lo, i.hi]
+}
+
+fn our_ends(i: eml::Interval) -> [f64; 2] {
     [i.lo, i.hi]
 }
 
@@ -58,7 +61,7 @@ fn methods_of_one_interval() {
         Comparison::new(
             "Interval::is_empty",
             |[lo, hi]| [number(Interval::new(lo, hi).is_empty())],
-            |[lo, hi]| [number(port::interval_is_empty(lo, hi))],
+            |[lo, hi]| [number(eml::Interval::new(lo, hi).is_empty())],
         ),
         51,
     );
@@ -66,7 +69,7 @@ fn methods_of_one_interval() {
         Comparison::new(
             "Interval::width",
             |[lo, hi]| [Interval::new(lo, hi).width()],
-            |[lo, hi]| [port::interval_width(lo, hi)],
+            |[lo, hi]| [eml::Interval::new(lo, hi).width()],
         ),
         52,
     );
@@ -74,7 +77,7 @@ fn methods_of_one_interval() {
         Comparison::new(
             "Interval::midpoint",
             |[lo, hi]| [Interval::new(lo, hi).midpoint()],
-            |[lo, hi]| [port::interval_midpoint(lo, hi)],
+            |[lo, hi]| [eml::Interval::new(lo, hi).midpoint()],
         ),
         53,
     );
@@ -86,8 +89,8 @@ fn methods_of_one_interval() {
                 [lower.lo, lower.hi, upper.lo, upper.hi]
             },
             |[lo, hi]| {
-                let (low, middle, high) = port::interval_split(lo, hi);
-                [low, middle, middle, high]
+                let (lower, upper) = eml::Interval::new(lo, hi).split();
+                [lower.lo, lower.hi, upper.lo, upper.hi]
             },
         ),
         54,
@@ -96,7 +99,7 @@ fn methods_of_one_interval() {
         Comparison::new(
             "Interval::exp",
             |[lo, hi]| ends(Interval::new(lo, hi).exp()),
-            |[lo, hi]| port::interval_exp(lo, hi).into(),
+            |[lo, hi]| our_ends(eml::Interval::new(lo, hi).exp()),
         ),
         55,
     );
@@ -104,7 +107,7 @@ fn methods_of_one_interval() {
         Comparison::new(
             "Interval::ln",
             |[lo, hi]| ends(Interval::new(lo, hi).ln()),
-            |[lo, hi]| port::interval_ln(lo, hi).into(),
+            |[lo, hi]| our_ends(eml::Interval::new(lo, hi).ln()),
         ),
         56,
     );
@@ -116,7 +119,7 @@ fn constructors_and_inverses() {
         Comparison::new(
             "Interval::new",
             |[lo, hi]| ends(Interval::new(lo, hi)),
-            |[lo, hi]| port::interval_new(lo, hi).into(),
+            |[lo, hi]| our_ends(eml::Interval::new(lo, hi)),
         ),
         60,
     );
@@ -124,7 +127,7 @@ fn constructors_and_inverses() {
         Comparison::new(
             "Interval::point",
             |[v, _]| ends(Interval::point(v)),
-            |[v, _]| port::interval_point(v).into(),
+            |[v, _]| our_ends(eml::Interval::point(v)),
         ),
         61,
     );
@@ -132,7 +135,7 @@ fn constructors_and_inverses() {
         Comparison::new(
             "Interval::exp_inv",
             |[lo, hi]| ends(Interval::new(lo, hi).exp_inv()),
-            |[lo, hi]| port::interval_exp_inv(lo, hi).into(),
+            |[lo, hi]| our_ends(eml::Interval::new(lo, hi).exp_inv()),
         ),
         62,
     );
@@ -140,7 +143,7 @@ fn constructors_and_inverses() {
         Comparison::new(
             "Interval::ln_inv",
             |[lo, hi]| ends(Interval::new(lo, hi).ln_inv()),
-            |[lo, hi]| port::interval_ln_inv(lo, hi).into(),
+            |[lo, hi]| our_ends(eml::Interval::new(lo, hi).ln_inv()),
         ),
         63,
     );
@@ -152,7 +155,7 @@ fn methods_of_two() {
         Comparison::new(
             "Interval::intersect",
             |[a, b, x, y]| ends(Interval::new(a, b).intersect(&Interval::new(x, y))),
-            |[a, b, x, y]| port::interval_intersect(a, b, x, y).into(),
+            |[a, b, x, y]| our_ends(eml::Interval::new(a, b).intersect(eml::Interval::new(x, y))),
         ),
         57,
     );
@@ -160,7 +163,7 @@ fn methods_of_two() {
         Comparison::new(
             "Interval::hull",
             |[a, b, x, y]| ends(Interval::new(a, b).hull(&Interval::new(x, y))),
-            |[a, b, x, y]| port::interval_hull(a, b, x, y).into(),
+            |[a, b, x, y]| our_ends(eml::Interval::new(a, b).hull(eml::Interval::new(x, y))),
         ),
         58,
     );
@@ -168,7 +171,7 @@ fn methods_of_two() {
         Comparison::new(
             "Interval::contains",
             |[a, b, x, _]| [number(Interval::new(a, b).contains(x))],
-            |[a, b, x, _]| [number(port::interval_contains(a, b, x))],
+            |[a, b, x, _]| [number(eml::Interval::new(a, b).contains(x))],
         ),
         59,
     );

@@ -17,7 +17,7 @@ fn shape(rng: &mut SplitMix64) -> Shape {
 }
 
 /// The problem's own boxes; fewer; or more, up to 16.
-fn boxes(rng: &mut SplitMix64, bounds: &[(f64, f64)], temper: Temper) -> Vec<port::Interval> {
+fn boxes(rng: &mut SplitMix64, bounds: &[(f64, f64)], temper: Temper) -> Vec<eml::Interval> {
     let mut boxes = bounds.to_vec();
     match rng.below(3) {
         0 => boxes.truncate(rng.below(boxes.len() + 1)),
@@ -30,14 +30,14 @@ fn boxes(rng: &mut SplitMix64, bounds: &[(f64, f64)], temper: Temper) -> Vec<por
     listed(&boxes)
 }
 
-fn listed(boxes: &[(f64, f64)]) -> Vec<port::Interval> {
+fn listed(boxes: &[(f64, f64)]) -> Vec<eml::Interval> {
     boxes
         .iter()
-        .map(|&(lo, hi)| port::Interval { lo, hi })
+        .map(|&(lo, hi)| eml::Interval { lo, hi })
         .collect()
 }
 
-fn bits(boxes: &[port::Interval]) -> Vec<String> {
+fn bits(boxes: &[eml::Interval]) -> Vec<String> {
     boxes.iter().map(|b| hex(&[b.lo, b.hi])).collect()
 }
 

@@ -1,7 +1,7 @@
 //! The proved mathematics against the Rust stand-ins: equal in every bit, a NaN counting as a NaN.
 
+use eml::{maths, number};
 use reference::compare::{Comparison, say};
-use reference::port;
 use reference::splitmix::{SPECIALS, SplitMix64};
 use reference::standins::{self, Complex64};
 
@@ -77,7 +77,7 @@ fn scaled(rng: &mut SplitMix64, least: i32, most: i32) -> f64 {
 
 #[test]
 fn exp() {
-    let mut c = Comparison::new("exp", |[x]| [standins::exp(x)], |[x]| [port::exp(x)]);
+    let mut c = Comparison::new("exp", |[x]| [standins::exp(x)], |[x]| [maths::exp(x)]);
     edges(&mut c);
     let at: u64 = (0..1078).map(|k| ties(&mut c, INV_LN2, k, 12)).sum();
     assert!(at >= 1000, "only {at} ties");
@@ -103,7 +103,7 @@ fn exp() {
 
 #[test]
 fn ln() {
-    let mut c = Comparison::new("ln", |[x]| [standins::ln(x)], |[x]| [port::ln(x)]);
+    let mut c = Comparison::new("ln", |[x]| [standins::ln(x)], |[x]| [maths::ln(x)]);
     edges(&mut c);
     let mut rng = SplitMix64::new(102);
     for _ in 0..10_000_000 {
@@ -160,17 +160,17 @@ fn angles(
 
 #[test]
 fn sin() {
-    angles("sin", |[x]| [standins::sin(x)], |[x]| [port::sin(x)], 103);
+    angles("sin", |[x]| [standins::sin(x)], |[x]| [maths::sin(x)], 103);
 }
 
 #[test]
 fn cos() {
-    angles("cos", |[x]| [standins::cos(x)], |[x]| [port::cos(x)], 104);
+    angles("cos", |[x]| [standins::cos(x)], |[x]| [maths::cos(x)], 104);
 }
 
 #[test]
 fn atan() {
-    let mut c = Comparison::new("atan", |[x]| [standins::atan(x)], |[x]| [port::atan(x)]);
+    let mut c = Comparison::new("atan", |[x]| [standins::atan(x)], |[x]| [maths::atan(x)]);
     edges(&mut c);
     let mut rng = SplitMix64::new(105);
     for _ in 0..2_000_000 {
@@ -189,27 +189,27 @@ fn atan() {
 
 #[test]
 fn abs_and_neighbours() {
-    let mut abs = Comparison::new("abs", |[x]| [x.abs()], |[x]| [port::abs(x)]);
+    let mut abs = Comparison::new("abs", |[x]| [x.abs()], |[x]| [number::abs(x)]);
     let mut up = Comparison::new(
         "next_up",
         |[x]| [standins::next_up(x)],
-        |[x]| [port::next_up(x)],
+        |[x]| [number::next_up(x)],
     );
     let mut down = Comparison::new(
         "next_down",
         |[x]| [standins::next_down(x)],
-        |[x]| [port::next_down(x)],
+        |[x]| [number::next_down(x)],
     );
     // Clause 5.3.1 by a second reading, that of Rust's own library.
     let mut up2 = Comparison::new(
         "next_up by Rust's library",
         |[x]| [x.next_up()],
-        |[x]| [port::next_up(x)],
+        |[x]| [number::next_up(x)],
     );
     let mut down2 = Comparison::new(
         "next_down by Rust's library",
         |[x]| [x.next_down()],
-        |[x]| [port::next_down(x)],
+        |[x]| [number::next_down(x)],
     );
     for c in [&mut abs, &mut up, &mut down, &mut up2, &mut down2] {
         edges(c);
@@ -229,9 +229,9 @@ fn bits_and_signs() {
     let mut sign = Comparison::new(
         "sign_bit",
         |[x]| [f64::from(u8::from(standins::sign_bit(x)))],
-        |[x]| [f64::from(u8::from(port::sign_bit(x)))],
+        |[x]| [f64::from(u8::from(number::sign_bit(x)))],
     );
-    let mut of = Comparison::new("of_bits", |[x]| [x], |[x]| [port::of_bits(x.to_bits())]);
+    let mut of = Comparison::new("of_bits", |[x]| [x], |[x]| [number::of_bits(x.to_bits())]);
     edges(&mut sign);
     edges(&mut of);
     let mut rng = SplitMix64::new(107);
@@ -251,7 +251,7 @@ fn bits_and_signs() {
         } else {
             x.to_bits()
         };
-        assert_eq!(port::bits_of(x), bits, "bits_of of {:016X}", x.to_bits());
+        assert_eq!(number::bits_of(x), bits, "bits_of of {:016X}", x.to_bits());
         count += 1;
     };
     for bits in SPECIALS {
@@ -288,12 +288,12 @@ fn max_and_min() {
     let mut max = Comparison::new(
         "max",
         |[a, b]| [standins::max(a, b)],
-        |[a, b]| [port::max(a, b)],
+        |[a, b]| [number::max(a, b)],
     );
     let mut min = Comparison::new(
         "min",
         |[a, b]| [standins::min(a, b)],
-        |[a, b]| [port::min(a, b)],
+        |[a, b]| [number::min(a, b)],
     );
     pairs(&mut max, 108);
     pairs(&mut min, 109);
@@ -340,7 +340,7 @@ fn complex_exp() {
             let z = Complex64::new(re, im).exp();
             [z.re, z.im]
         },
-        |[re, im]| port::complex_exp(re, im).into(),
+        |[re, im]| maths::complex_exp(re, im).into(),
     );
     for a in SPECIALS {
         for b in SPECIALS {
@@ -363,7 +363,7 @@ fn complex_ln() {
             let z = Complex64::new(re, im).ln();
             [z.re, z.im]
         },
-        |[re, im]| port::complex_ln(re, im).into(),
+        |[re, im]| maths::complex_ln(re, im).into(),
     );
     for a in SPECIALS {
         for b in SPECIALS {

@@ -1,5 +1,6 @@
 //! The proved reader against one written independently from document 01.
 
+use eml::{Problem, Records};
 use reference::compare::Tally;
 use reference::generate::{self, Shape};
 use reference::house;
@@ -10,7 +11,7 @@ use reference::splitmix::SplitMix64;
 /// Both readers' number, and what both read where they accept.
 fn compare_file(file: &[u8], tally: &mut Tally) {
     let lent = file.to_vec();
-    let ours = port::read(file);
+    let ours = port::number(Problem::from_bytes(file));
     assert_eq!(file, lent);
     match house::read_file(file) {
         Err(number) => {
@@ -77,7 +78,11 @@ fn records() {
     let mut tally = Tally::new("records without a file");
     for _ in 0..100_000 {
         let (nodes, constraints) = generate::any_records(&mut rng);
-        let ours = port::read_records(&nodes, &constraints);
+        let records = Records {
+            nodes: &nodes,
+            constraints: &constraints,
+        };
+        let ours = port::number(records.test());
         let theirs = house::read_records(&nodes, &constraints);
         assert_eq!(ours, theirs.err().unwrap_or(0));
         tally.add(ours);

@@ -3,10 +3,10 @@
 //! Both sides take turns over the rounds. Each time is the median of the rounds, and the ratio is the median of the
 //! rounds' ratios, so that a disturbance of the machine in one round does not count.
 
+use eml::{Records, maths, number};
 use reference::eval::EvalCtx;
 use reference::generate::{self, Shape};
 use reference::house::{self, Bodies, Problem};
-use reference::port;
 use reference::smt::helpers::evaluate_constraint_residual;
 use reference::smt::interval::{Interval, IntervalDomain};
 use reference::smt::nra::EmlNraSolver;
@@ -135,7 +135,7 @@ fn reading() {
         };
         let port = || {
             for file in &files {
-                black_box(port::read(file));
+                black_box(eml::Problem::from_bytes(file).is_ok());
             }
         };
         line(name, files.len(), rust, port);
@@ -189,6 +189,14 @@ fn solve(problem: &Problem, bounds: &[(f64, f64)]) {
         ..EmlNraSolver::new(bounds.to_vec())
     };
     black_box(solver.solve(&problem.constraint).is_ok());
+}
+
+/// The problem as the port gets it.
+fn records(c: &Case) -> Records<'_> {
+    Records {
+        nodes: &c.bodies.nodes,
+        constraints: &c.bodies.constraints,
+    }
 }
 
 /// The lower and the upper ends of a problem's bounds.
@@ -247,15 +255,15 @@ fn solving() {
             |problem, c| value(problem, &c.point),
             |c| {
                 let last = c.problem.trees.len() - 1;
-                black_box(port::eval_real(&c.bodies.nodes, last, &c.point).is_ok());
+                black_box(records(c).eval_real(last, &c.point).is_ok());
             },
         );
         both_ways(
             &format!("residual, {size}"),
             &cases,
             |problem, c| residual(problem, &c.point),
-            |Case { bodies, point, .. }| {
-                black_box(port::residual(&bodies.nodes, &bodies.constraints, point).is_ok());
+            |c| {
+                black_box(records(c).residual(&c.point).is_ok());
             },
         );
         both_ways(
@@ -264,8 +272,7 @@ fn solving() {
             |problem, c| propagate(problem, &c.problem.bounds),
             |c| {
                 let (mut lo, mut hi) = ends(&c.problem);
-                let (nodes, constraints) = (&c.bodies.nodes, &c.bodies.constraints);
-                black_box(port::propagate(nodes, constraints, &mut lo, &mut hi).is_ok());
+                black_box(records(c).propagate_ends(&mut lo, &mut hi).is_ok());
             },
         );
         both_ways(
@@ -273,9 +280,9 @@ fn solving() {
             &cases,
             |problem, c| solve(problem, &c.problem.bounds),
             |c| {
-                let (lo, hi) = ends(&c.problem);
-                let (nodes, constraints) = (&c.bodies.nodes, &c.bodies.constraints);
-                black_box(port::solve(nodes, constraints, &lo, &hi, LIMIT, 1e-8, 16).is_ok());
+                let bounds = c.problem.bounds.iter();
+                let bounds: Vec<_> = bounds.map(|&(lo, hi)| eml::Interval { lo, hi }).collect();
+                black_box(records(c).solve(&bounds, LIMIT, 1e-8).is_ok());
             },
         );
     }
@@ -299,18 +306,18 @@ fn main() {
         "{:<24} {:>10} {:>10} {:>7}",
         "call", "ns Rust", "ns port", "ratio"
     );
-    unary("exp", &ordinary, standins::exp, port::exp);
-    unary("exp, wide", &wide, standins::exp, port::exp);
-    unary("ln", &positive, standins::ln, port::ln);
-    unary("ln, subnormal", &subnormal, standins::ln, port::ln);
-    unary("sin", &ordinary, standins::sin, port::sin);
-    unary("cos", &ordinary, standins::cos, port::cos);
-    unary("atan", &units, standins::atan, port::atan);
-    unary("abs", &ordinary, called::abs, port::abs);
-    unary("next_up", &ordinary, called::next_up, port::next_up);
-    unary("next_down", &ordinary, called::next_down, port::next_down);
-    binary("max", &pairs, called::max, port::max);
-    binary("min", &pairs, called::min, port::min);
+    unary("exp", &ordinary, standins::exp, maths::exp);
+    unary("exp, wide", &wide, standins::exp, maths::exp);
+    unary("ln", &positive, standins::ln, maths::ln);
+    unary("ln, subnormal", &subnormal, standins::ln, maths::ln);
+    unary("sin", &ordinary, standins::sin, maths::sin);
+    unary("cos", &ordinary, standins::cos, maths::cos);
+    unary("atan", &units, standins::atan, maths::atan);
+    unary("abs", &ordinary, called::abs, number::abs);
+    unary("next_up", &ordinary, called::next_up, number::next_up);
+    unary("next_down", &ordinary, called::next_down, number::next_down);
+    binary("max", &pairs, called::max, number::max);
+    binary("min", &pairs, called::min, number::min);
     let rust_exp = |re, im| {
         let z = Complex64::new(re, im).exp();
         (z.re, z.im)
@@ -319,8 +326,8 @@ fn main() {
         let z = Complex64::new(re, im).ln();
         (z.re, z.im)
     };
-    binary("complex exp", &pairs, rust_exp, port::complex_exp);
-    binary("complex ln", &pairs, rust_ln, port::complex_ln);
+    binary("complex exp", &pairs, rust_exp, maths::complex_exp);
+    binary("complex ln", &pairs, rust_ln, maths::complex_ln);
     reading();
     solving();
 }
