@@ -20,7 +20,7 @@ pub enum Evaluation {
     NanEncountered,
     /// A value that is not real, with its imaginary part.
     ComplexResult(f64),
-    /// The source's error of an exp too large. Its exp is clamped, so no evaluation answers this.
+    /// An exp beyond the clamp, in a strict evaluation. No call evaluates strictly yet, so none answers this.
     ExpOverflow(f64),
 }
 
@@ -31,7 +31,7 @@ pub enum Propagation {
     Changed,
     /// Nothing to narrow.
     Stable,
-    /// No point of the boxes meets the constraint. What was written before stays.
+    /// Narrowing met a conflict. What was written before stays.
     Conflict,
 }
 
