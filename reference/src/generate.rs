@@ -558,6 +558,21 @@ pub fn unsound_range(rng: &mut SplitMix64) -> (f64, f64) {
     pair
 }
 
+/// Boxes for a call: mostly few, now and then about 16, one list in four with an unsound one.
+pub fn any_boxes(rng: &mut SplitMix64) -> Vec<(f64, f64)> {
+    let count = if rng.one_in(6) {
+        15 + rng.below(4)
+    } else {
+        rng.below(4)
+    };
+    let mut boxes: Vec<(f64, f64)> = (0..count).map(|_| range(rng, Temper::Wild)).collect();
+    if rng.one_in(4) && count > 0 {
+        let at = rng.below(count);
+        boxes[at] = unsound_range(rng);
+    }
+    boxes
+}
+
 /// A point: ordinary values, or any f64.
 pub fn point(rng: &mut SplitMix64, length: usize) -> Vec<f64> {
     let wild = rng.below(4);

@@ -85,18 +85,7 @@ fn refusals() {
     let mut tally = Tally::new("refusals of propagate");
     for _ in 0..60_000 {
         let (nodes, constraints) = generate::any_records(&mut rng);
-        let count = if rng.one_in(6) {
-            15 + rng.below(4)
-        } else {
-            rng.below(4)
-        };
-        let mut boxes: Vec<(f64, f64)> = (0..count)
-            .map(|_| generate::range(&mut rng, Temper::Wild))
-            .collect();
-        if rng.one_in(4) && count > 0 {
-            let at = rng.below(count);
-            boxes[at] = generate::unsound_range(&mut rng);
-        }
+        let boxes = generate::any_boxes(&mut rng);
         let mut lo: Vec<f64> = boxes.iter().map(|b| b.0).collect();
         let mut hi: Vec<f64> = boxes.iter().map(|b| b.1).collect();
         if rng.one_in(20) {

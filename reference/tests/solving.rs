@@ -2,7 +2,7 @@
 
 use reference::compare::{Tally, hex, say};
 use reference::counted::{self, Answer};
-use reference::generate::{self, Shape, Temper};
+use reference::generate::{self, Shape};
 use reference::house;
 use reference::port;
 use reference::splitmix::SplitMix64;
@@ -104,18 +104,8 @@ fn refusals_of_records() {
     let mut tally = Tally::new("refusals of solve on records");
     for _ in 0..50_000 {
         let (nodes, constraints) = generate::any_records(&mut rng);
-        let count = if rng.one_in(6) {
-            15 + rng.below(4)
-        } else {
-            rng.below(4)
-        };
-        let mut boxes: Vec<(f64, f64)> = (0..count)
-            .map(|_| generate::range(&mut rng, Temper::Wild))
-            .collect();
-        if rng.one_in(4) && count > 0 {
-            let at = rng.below(count);
-            boxes[at] = generate::unsound_range(&mut rng);
-        }
+        let boxes = generate::any_boxes(&mut rng);
+        let count = boxes.len();
         let (lo, mut hi) = ends(&boxes);
         if rng.one_in(20) {
             hi.push(1.0);

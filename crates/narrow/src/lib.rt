@@ -8,8 +8,6 @@ use settings::Settings;
 use tree::Node;
 ghost use mathlib.Core.Path.{_≡_};
 ghost use Prim.Native.Nat.{_+_, _≤_};
-ghost use mathlib.Core.List.{List};
-ghost use lib.Ieee.{Float};
 ghost use lib.ListN.{length};
 ghost use Rattle.interval.specs.Interval as Intervals;
 ghost use Rattle.interval.specs.Boxes.{intervals, boxesOf};

@@ -4,7 +4,7 @@ use constraint::Record;
 use constraint::Relation;
 ghost use mathlib.Core.Path.{_≡_};
 ghost use Prim.Native.Nat.{_+_, _*_, _≤_};
-ghost use mathlib.Core.List.{List, _++_, [], _∷_};
+ghost use mathlib.Core.List.{_++_, [], _∷_};
 ghost use lib.ListN.{length};
 ghost use lib.Seq.{sets};
 ghost use Rattle.tree.specs.Bytes.{u32Bytes, u64Bytes};

@@ -1,6 +1,6 @@
 -- The test of a record goes by its kind, and the greatest of a list by one more element. Assumes nothing.
 use Prim.Native.Nat.{ℕ, zero, suc, _+_, _*_, max, _≤_, _<_}
-use mathlib.Core.Path.{_≡_, refl, sym, ap, ap₂, _∙_, subst}
+use mathlib.Core.Path.{_≡_, refl, sym, _∙_, subst}
 use mathlib.Core.Bool.{Bool, true, false, _&&_}
 use mathlib.Core.List.{List}
 use mathlib.Core.Logic.{⊎-elim}

@@ -1,7 +1,7 @@
 -- `maths::ln` meets its contract. Assumes nothing.
 use mathlib.Core.Path.{_≡_, refl, sym, ap, _∙_, subst}
 use mathlib.Core.Bool.{Bool, true, false, cond, true≢false}
-use Prim.Native.Nat.{ℕ, zero, suc, _+_, _-_, _*_, _^_, _<_}
+use Prim.Native.Nat.{ℕ, zero, suc, _+_, _-_, _*_, _<_}
 use native.Mathlib.Nat.{mul-pos, zero-mul, zero-lt-suc}
 use native.Mathlib.Omega.{arith}
 use lib.Dec.{T, ltb, lt→ltb}
@@ -13,9 +13,7 @@ use lib.Ieee.{Float, nan, inf, fin, up, down, isNan, level, lt, eq, nanBits, ofB
 use lib.Ieee.Compare.{differs-from-itself}
 use lib.Ieee.Positive.{positive}
 use mir.Syntax.{w64}
-use mir.Val.{SFits}
 use mir.ValLaws.{toZ-ofZ}
-use borrow.Author.Needs.{needs}
 use Rattle.number.specs.Notation.{if_then_else_, bits}
 use Rattle.maths.specs.Ln.{lnOf, lnFrom}
 use Rattle.number.specs.Literals.{zero-is, two-is, infinite, minus-infinite, undefined}

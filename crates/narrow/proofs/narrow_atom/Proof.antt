@@ -3,7 +3,7 @@ use borrow.Author.Needs.{needs}
 use Rattle.narrow.proofs.narrow_atom.Statement.{statement}
 use Rattle.narrow.proofs.narrow_atom.Tie as tie
 use mathlib.Core.Path.{refl, sym, _∙_}
-use Rattle.tree.specs.NodeLaws.{record-there, at-left, at-right, tree-is}
+use Rattle.tree.specs.NodeLaws.{at-left, at-right, tree-is}
 
 narrow-eml-requires : tie.Need-narrow-eml-requires
 narrow-eml-requires c κs =

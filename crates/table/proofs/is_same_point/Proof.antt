@@ -1,9 +1,7 @@
 -- `is_same_point` reads within both. Assumes nothing.
 use Prim.Native.Nat.{_≤_, _-_}
-use mathlib.Core.Path.{_≡_, refl}
 use native.Mathlib.Omega.{arith}
 use borrow.Author.Needs.{needs}
-use lib.ListN.{length}
 use Rattle.table.proofs.is_same_point.Statement.{statement}
 use Rattle.table.proofs.is_same_point.Tie as tie
 

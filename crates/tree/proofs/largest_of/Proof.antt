@@ -3,7 +3,6 @@ use Rattle.tree.proofs.largest_of.Statement.{statement}
 use Rattle.tree.proofs.largest_of.Tie as tie
 use Prim.Native.Nat.{ℕ, _-_, _≤_, _<_}
 use native.Mathlib.Nat.{not-suc-le-zero}
-use borrow.Author.Needs.{needs}
 use native.Mathlib.Omega.{arith}
 use denote.Ref.{now}
 use lib.ListN.{getD}
