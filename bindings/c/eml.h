@@ -131,7 +131,7 @@ enum {
     EML_EVAL_VAR_OUT_OF_BOUNDS = 1,
     EML_EVAL_NAN_ENCOUNTERED = 2,
     EML_EVAL_COMPLEX_RESULT = 3,
-    /* An exp whose argument is beyond the clamp; only strict settings answer so, which no call here has. */
+    /* An exp beyond the clamp, in a strict evaluation. No call evaluates strictly yet, so none answers this. */
     EML_EVAL_EXP_OVERFLOW = 4
 };
 

@@ -20,7 +20,7 @@ pub enum Evaluation {
     NanEncountered,
     /// A value that is not real, with its imaginary part.
     ComplexResult(f64),
-    /// An exp whose argument is beyond the clamp. Only strict settings answer so, which no call here has.
+    /// An exp beyond the clamp, in a strict evaluation. No call evaluates strictly yet, so none answers this.
     ExpOverflow(f64),
 }
 
@@ -31,7 +31,7 @@ pub enum Propagation {
     Changed,
     /// Nothing to narrow.
     Stable,
-    /// Narrowing met a conflict. What was written before it stays.
+    /// Narrowing met a conflict. What was written before stays.
     Conflict,
 }
 

@@ -102,14 +102,16 @@ fn eml_complex(left: Complex, right: Complex, settings: Settings) -> EvaluatedCo
         im: left.im,
     });
     let n = maths::complex_ln(right);
-    let z = Complex {
-        re: e.re - n.re,
-        im: e.im - n.im,
-    };
-    if is_nan(z.re) | is_nan(z.im) {
+    // Each part has its own test: both in one step would wait longer for the parts.
+    let re = e.re - n.re;
+    if is_nan(re) {
         return EvaluatedComplex::Failed(EvalError::NanEncountered);
     }
-    EvaluatedComplex::Value(z)
+    let im = e.im - n.im;
+    if is_nan(im) {
+        return EvaluatedComplex::Failed(EvalError::NanEncountered);
+    }
+    EvaluatedComplex::Value(Complex { re, im })
 }
 
 fn complex(re: f64, im: f64) -> Complex
