@@ -77,13 +77,13 @@ uint8_t eml_solve(const uint8_t *nodes, size_t nodes_length, const uint8_t *cons
 
 /* ---- decisions */
 
-/* What `verdict` is after a decision. EML_TRUE means that propagation met a conflict, no more. */
+/* What `verdict` is after a decision. EML_TRUE means that propagation of the negation met a conflict, no more. */
 enum { EML_TRUE = 0, EML_TRUE_WITH_WITNESS = 1, EML_FALSE_WITH_COUNTEREXAMPLE = 2, EML_UNKNOWN = 3 };
 
 /*
- * Whether the constraint holds for every value of variable `var` in [lo, hi], the other variables of `num_vars` being 0. The
- * counterexample is in the first `count` places of `point`. Refused with 9 for over 16 variables or an unsound range, and
- * with 10 where `point` has fewer than `num_vars` places.
+ * Whether the constraint holds for every value of variable `var` in [lo, hi], by five samples that have the other variables of
+ * `num_vars` at 0. The counterexample is in the first `count` places of `point`. Refused with 9 for over 16 variables or an
+ * unsound range, and with 10 where `point` has fewer than `num_vars` places.
  */
 uint8_t eml_decide_forall(const uint8_t *nodes, size_t nodes_length, const uint8_t *constraints, size_t constraints_length,
                           size_t var, double lo, double hi, size_t num_vars, uint8_t *verdict, size_t *count, double *point,
@@ -131,7 +131,7 @@ enum {
     EML_EVAL_VAR_OUT_OF_BOUNDS = 1,
     EML_EVAL_NAN_ENCOUNTERED = 2,
     EML_EVAL_COMPLEX_RESULT = 3,
-    /* The source has this error, but exp is clamped: no evaluation answers it. */
+    /* An exp beyond the clamp, in a strict evaluation. No call evaluates strictly yet, so none answers this. */
     EML_EVAL_EXP_OVERFLOW = 4
 };
 

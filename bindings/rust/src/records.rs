@@ -49,7 +49,7 @@ impl Propagation {
 /// A decision about a variable in a range.
 #[derive(Clone, Copy, Debug, PartialEq)]
 pub enum Decision {
-    /// Propagation met a conflict, no more.
+    /// Propagation of the negation met a conflict, no more.
     True,
     /// A point that meets the constraint.
     TrueWithWitness(Point),
@@ -204,8 +204,9 @@ impl Records<'_> {
         Solution::written(|to| calls::solve(*self, lo, hi, limit, tolerance, to))
     }
 
-    /// Whether the constraint holds for every value of variable `var` in `range`, the other variables of `num_vars` being 0.
-    /// Refused with 9 for over 16 variables, or an unsound range.
+    /// Whether the constraint holds for every value of variable `var` in `range`: True where propagation of its negation meets a
+    /// conflict, else five samples in order, which have the other variables of `num_vars` at 0. Refused with 9 for over 16
+    /// variables, or an unsound range.
     ///
     /// ```
     /// use eml::{Decision, Interval, Records};
@@ -234,7 +235,7 @@ impl Records<'_> {
         Decision::written(|to| calls::decide_forall(*self, var, range, num_vars, to))
     }
 
-    /// Whether it holds for some value, as [`decide_forall`](Self::decide_forall).
+    /// Whether it holds for some value: five samples in order, as [`decide_forall`](Self::decide_forall) has them.
     pub fn decide_exists(
         &self,
         var: usize,

@@ -91,7 +91,8 @@ pub struct Solution {
     pub stop: Stop,
     /// The assignment; no other answer has values.
     pub point: Point,
-    /// Whether the assignment is exact: found without a halving in a box narrower than the tolerance, or without variables.
+    /// Whether the assignment is exact: there are no variables, or the limit is above 0 and the box was narrower than the
+    /// tolerance before any halving.
     pub exact: bool,
     /// The residual of any answer but an assignment; +inf for conflict and unsatisfied.
     pub residual: f64,
