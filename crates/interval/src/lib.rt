@@ -3,6 +3,8 @@ ghost use mathlib.Core.Path.{_≡_};
 ghost use Prim.Native.Nat.{_≤_};
 ghost use lib.ListN.{length, getD};
 ghost use lib.Ieee.Scale.{finite};
+ghost use Rattle.maths.specs.Exp.{expOf};
+ghost use Rattle.maths.specs.Ln.{lnOf};
 ghost use Rattle.interval.specs.Interval.{_‥_, isEmpty, width, midpoint, contains, split, intersect, hull, exp, hasLn, ln};
 ghost use Rattle.interval.specs.Boxes.{intervals, boxesOf, missing, starting, anyEmpty, allSound, areBoxes};
 
@@ -22,6 +24,28 @@ fn is_finite(x: f64) -> bool
     ensures { λ r. ⌜ r ≡ finite x ⌝ }
 {
     (-1.0 / 0.0 < x) & (x < 1.0 / 0.0)
+}
+
+// exp and ln of a point: 1, the value of One, comes often, and 0, its ln.
+fn exp_at(x: f64) -> f64
+    ensures { λ r. ⌜ r ≡ expOf x ⌝ }
+{
+    if x == 0.0 {
+        return 1.0;
+    }
+    if x == 1.0 {
+        return f64::from_bits(0x4005BF0A8B14576A);
+    }
+    maths::exp(x)
+}
+
+fn ln_at(x: f64) -> f64
+    ensures { λ r. ⌜ r ≡ lnOf x ⌝ }
+{
+    if x == 1.0 {
+        return 0.0;
+    }
+    maths::ln(x)
 }
 
 impl Interval {
@@ -93,11 +117,10 @@ impl Interval {
     pub fn exp(self) -> Self
         ensures { λ r. ⌜ r ≡ exp self ⌝ }
     {
-        let low = maths::exp(self.lo);
         if self.lo == self.hi {
-            return Self::point(low);
+            return Self::point(exp_at(self.lo));
         }
-        Self::new(low, maths::exp(self.hi))
+        Self::new(maths::exp(self.lo), maths::exp(self.hi))
     }
 
     // Whether ln is real on it.
@@ -113,11 +136,10 @@ impl Interval {
         if !self.has_ln() {
             return Self::new(1.0 / 0.0, -1.0 / 0.0);
         }
-        let low = maths::ln(self.lo);
         if self.lo == self.hi {
-            return Self::point(low);
+            return Self::point(ln_at(self.lo));
         }
-        Self::new(low, maths::ln(self.hi))
+        Self::new(maths::ln(self.lo), maths::ln(self.hi))
     }
 
     // Where exp lies in it.

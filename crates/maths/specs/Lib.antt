@@ -5,3 +5,4 @@ pub mod Trig
 pub mod Cplx
 pub mod Computing
 pub mod Examples
+pub mod Zeros

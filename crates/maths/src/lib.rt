@@ -6,7 +6,7 @@ ghost use lib.Dec.{T};
 ghost use lib.Signed.{mag};
 ghost use lib.Ieee.{binary64, ofBits};
 ghost use lib.Ieee.Positive.{positive};
-ghost use Rattle.number.specs.Notation.{whole, integer};
+ghost use Rattle.number.specs.Notation.{_⊗_, whole, integer};
 ghost use Rattle.number.specs.Near.{below};
 ghost use Rattle.maths.specs.Series.{series};
 ghost use Rattle.maths.specs.Exp.{two^, expSum, scaled, expOf};
@@ -301,14 +301,26 @@ pub struct Complex {
     pub im: f64,
 }
 
+// A length e at an angle. cos of a zero is 1, and sin is the zero.
+fn at_angle(e: f64, angle: f64) -> Complex
+    ensures { λ r. ⌜ r ≡ record { re = e ⊗ cosOf angle; im = e ⊗ sinOf angle } ⌝ }
+{
+    if angle == 0.0 {
+        return Complex {
+            re: e * 1.0,
+            im: e * angle,
+        };
+    }
+    Complex {
+        re: e * cos(angle),
+        im: e * sin(angle),
+    }
+}
+
 pub fn complex_exp(z: Complex) -> Complex
     ensures { λ r. ⌜ r ≡ complexExp z ⌝ }
 {
-    let e = exp(z.re);
-    Complex {
-        re: e * cos(z.im),
-        im: e * sin(z.im),
-    }
+    at_angle(exp(z.re), z.im)
 }
 
 fn log_size(m: f64, q: f64) -> f64
