@@ -121,7 +121,7 @@ fn steps(
         // The last of the widest.
         let mut widest = 0;
         for (i, v) in domain.vars.iter().enumerate() {
-            if !(v.width() < domain.vars[widest].width()) {
+            if v.width() >= domain.vars[widest].width() {
                 widest = i;
             }
         }

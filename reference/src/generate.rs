@@ -558,12 +558,12 @@ pub fn unsound_range(rng: &mut SplitMix64) -> (f64, f64) {
     pair
 }
 
-/// Boxes for a call: mostly few, now and then about 16, one list in four with an unsound one.
+/// Boxes for a call: mostly few, now and then about 16 or far more, one list in four with an unsound one.
 pub fn any_boxes(rng: &mut SplitMix64) -> Vec<(f64, f64)> {
-    let count = if rng.one_in(6) {
-        15 + rng.below(4)
-    } else {
-        rng.below(4)
+    let count = match rng.below(12) {
+        0 | 1 => 15 + rng.below(4),
+        2 => 17 + rng.below(60),
+        _ => rng.below(4),
     };
     let mut boxes: Vec<(f64, f64)> = (0..count).map(|_| range(rng, Temper::Wild)).collect();
     if rng.one_in(4) && count > 0 {

@@ -135,7 +135,7 @@ fn answers() -> Vec<Case> {
         };
         let parts = generate::problem(&mut rng, &shape);
         let mut file = parts.to_file();
-        if k % 10 == 0 {
+        if k.is_multiple_of(10) {
             generate::damage_file(&mut rng, &mut file, &parts.to_bodies());
         }
         let limit = rng.pick(&[0, 1, 2, 5, 40, 200]);

@@ -1,4 +1,5 @@
-//! `propagate` against the Rust's: the answer and every bit of every box, also after a Conflict. And `to_nnf`, record by record.
+//! `propagate` against the Rust's: the answer and every bit of every box, also after a Conflict, on two lists of ends and on one list of
+//! intervals. And `to_nnf`, record by record.
 
 use reference::compare::{Tally, hex, say};
 use reference::generate::{self, Shape, Temper};
@@ -37,6 +38,17 @@ fn boxes(rng: &mut SplitMix64, bounds: &[(f64, f64)], temper: Temper) -> Vec<(f6
     boxes
 }
 
+fn listed(boxes: &[(f64, f64)]) -> Vec<eml::Interval> {
+    boxes
+        .iter()
+        .map(|&(lo, hi)| eml::Interval { lo, hi })
+        .collect()
+}
+
+fn bits(boxes: &[eml::Interval]) -> Vec<String> {
+    boxes.iter().map(|b| hex(&[b.lo, b.hi])).collect()
+}
+
 #[test]
 fn propagation() {
     let mut rng = SplitMix64::new(61);
@@ -59,6 +71,11 @@ fn propagation() {
         let before = (lo.clone(), hi.clone());
         let ours = port::propagate(&bodies.nodes, &bodies.constraints, &mut lo, &mut hi);
         assert_eq!(ours, Ok(theirs), "{parts:?} {boxes:?}");
+        let mut list = listed(&boxes);
+        let lent = port::propagate_intervals(&bodies.nodes, &bodies.constraints, &mut list);
+        assert_eq!(lent, Ok(theirs), "{parts:?} {boxes:?}");
+        let vars: Vec<String> = domain.vars.iter().map(|v| hex(&[v.lo, v.hi])).collect();
+        assert_eq!(vars, bits(&list), "{parts:?} {boxes:?}");
         for (i, v) in domain.vars.iter().enumerate() {
             let (a, b) = (hex(&[v.lo, v.hi]), hex(&[lo[i], hi[i]]));
             assert_eq!(a, b, "box {i} of {parts:?} {boxes:?}");
@@ -74,15 +91,17 @@ fn propagation() {
         written += u64::from(theirs == PropResult::Conflict && moved);
     }
     say(&format!(
-        "propagate: 300000 compared, all equal; Changed {changed}, Stable {stable}, Conflict {conflict}, of which {written} had written"
+        "propagate: 300000 compared on ends and on intervals, all equal; Changed {changed}, Stable {stable}, Conflict {conflict}, of which {written} had written"
     ));
     assert!(changed >= 20_000 && stable >= 20_000 && conflict >= 20_000 && written >= 1_000);
 }
 
+/// Of two lists of ends, which may differ in length, and of one list of intervals.
 #[test]
 fn refusals() {
     let mut rng = SplitMix64::new(62);
     let mut tally = Tally::new("refusals of propagate");
+    let mut intervals = Tally::new("refusals of propagate on intervals");
     for _ in 0..60_000 {
         let (nodes, constraints) = generate::any_records(&mut rng);
         let boxes = generate::any_boxes(&mut rng);
@@ -106,8 +125,23 @@ fn refusals() {
             assert_eq!(before, (hex(&lo), hex(&hi)));
         }
         tally.add(number);
+        let expected = match records {
+            0 if boxes.len() > 16 || !sound => 9,
+            other => other,
+        };
+        let mut list = listed(&boxes);
+        let before = bits(&list);
+        let number = port::propagate_intervals(&nodes, &constraints, &mut list)
+            .err()
+            .unwrap_or(0);
+        assert_eq!(number, expected);
+        if number != 0 {
+            assert_eq!(before, bits(&list));
+        }
+        intervals.add(number);
     }
     tally.done(&[0, 2, 3, 4, 5, 6, 7, 9], 200);
+    intervals.done(&[0, 2, 3, 4, 5, 6, 7, 9], 200);
 }
 
 /// Record by record; places past the last one written, and refused outputs, keep their bytes.

@@ -172,12 +172,10 @@ fn residual(problem: &Problem, point: &[f64]) {
     black_box(evaluate_constraint_residual(&problem.constraint, point));
 }
 
-fn propagate(problem: &Problem, bounds: &[(f64, f64)]) {
-    let vars = bounds.iter().map(|&(lo, hi)| Interval::new(lo, hi));
-    let mut domain = IntervalDomain {
-        vars: vars.collect(),
-    };
-    black_box(domain.propagate(&problem.constraint));
+/// Narrowing alters its boxes, so on both sides they are copied for each call, to a list that is there already.
+fn refill<T>(list: &mut Vec<T>, problem: &Problem, of: impl Fn(f64, f64) -> T) {
+    list.clear();
+    list.extend(problem.bounds.iter().map(|&(lo, hi)| of(lo, hi)));
 }
 
 /// So that a few long runs do not outweigh the others.
@@ -199,16 +197,11 @@ fn records(c: &Case) -> Records<'_> {
     }
 }
 
-/// The lower and the upper ends of a problem's bounds.
-fn ends(problem: &Problem) -> (Vec<f64>, Vec<f64>) {
-    problem.bounds.iter().copied().unzip()
-}
-
 /// Two lines: the Rust reads the records in each call, as the port does, and the Rust has built its trees before.
 fn both_ways(
     name: &str,
     cases: &[Case],
-    rust: impl Fn(&Problem, &Case),
+    mut rust: impl FnMut(&Problem, &Case),
     mut port: impl FnMut(&Case),
 ) {
     let mut port = || {
@@ -266,15 +259,22 @@ fn solving() {
                 black_box(records(c).residual(&c.point).is_ok());
             },
         );
-        both_ways(
-            &format!("propagate, {size}"),
-            &cases,
-            |problem, c| propagate(problem, &c.problem.bounds),
-            |c| {
-                let (mut lo, mut hi) = ends(&c.problem);
-                black_box(records(c).propagate_ends(&mut lo, &mut hi).is_ok());
-            },
-        );
+        let mut domain = IntervalDomain { vars: Vec::new() };
+        let mut narrow = |problem: &Problem, c: &Case| {
+            refill(&mut domain.vars, &c.problem, Interval::new);
+            black_box(domain.propagate(&problem.constraint));
+        };
+        let (mut lo, mut hi) = (Vec::new(), Vec::new());
+        both_ways(&format!("propagate, {size}"), &cases, &mut narrow, |c| {
+            refill(&mut lo, &c.problem, |lo, _| lo);
+            refill(&mut hi, &c.problem, |_, hi| hi);
+            black_box(records(c).propagate_ends(&mut lo, &mut hi).is_ok());
+        });
+        let mut boxes = Vec::new();
+        both_ways(&format!("intervals, {size}"), &cases, &mut narrow, |c| {
+            refill(&mut boxes, &c.problem, |lo, hi| eml::Interval { lo, hi });
+            black_box(records(c).propagate(&mut boxes).is_ok());
+        });
         both_ways(
             &format!("solve, {size}"),
             &cases,
