@@ -1,6 +1,6 @@
 -- `lt`, `le`, `gt`, `ge` (constraint.rs): what `sub` appends, and the atom's record on the result node.
 use Prim.Native.Nat.{ℕ, zero, suc, _+_, _*_}
-use mathlib.Core.List.{List, _++_}
+use mathlib.Core.List.{List, [], _∷_, _++_}
 use lib.Dec.{leb}
 use lib.Ieee.{binary64, toBits}
 use lib.ListN.{length}
@@ -21,6 +21,11 @@ recordBytes (Record.And m) = u32Bytes 7 ++ u32Bytes m ++ u64Bytes 0 ++ u64Bytes 
 recordBytes (Record.Or m) = u32Bytes 8 ++ u32Bytes m ++ u64Bytes 0 ++ u64Bytes 0
 recordBytes (Record.ForAll v lo hi) = u32Bytes 9 ++ u32Bytes v ++ u64Bytes (toBits binary64 lo) ++ u64Bytes (toBits binary64 hi)
 recordBytes (Record.Exists v lo hi) = u32Bytes 10 ++ u32Bytes v ++ u64Bytes (toBits binary64 lo) ++ u64Bytes (toBits binary64 hi)
+
+-- and of several
+unfoldable pub recordsBytes : List Record → List ℕ
+recordsBytes [] = []
+recordsBytes (r ∷ rs) = recordBytes r ++ recordsBytes rs
 
 -- as sub, then 10 for an output under a record's bytes
 unfoldable pub compareRefusal : List ℕ → ℕ → ℕ → ℕ → List ℕ → ℕ

@@ -8,5 +8,5 @@ use Rattle.constraint.specs.Fingerprint
 use Rattle.constraint.specs.Comparison
 
 unfoldable pub computing : Unit {0}
-unfolding Below.computing Ieee.le Constraint.levels Constraint.quantifiers Constraint.numVars Records.relationOf Records.recordAt Records.isRecord Records.gather Records.finish Records.finished Records.constraintAt Records.recordRefusal Records.recordsRefusal Starts.begun Starts.startAt Fingerprint.number Fingerprint.fingerprint Comparison.recordBytes Comparison.compareRefusal Comparison.compared
+unfolding Below.computing Ieee.le Constraint.levels Constraint.quantifiers Constraint.numVars Records.relationOf Records.recordAt Records.isRecord Records.gather Records.finish Records.finished Records.constraintAt Records.recordRefusal Records.recordsRefusal Starts.begun Starts.startAt Fingerprint.number Fingerprint.fingerprint Comparison.recordBytes Comparison.recordsBytes Comparison.compareRefusal Comparison.compared
 computing = tt

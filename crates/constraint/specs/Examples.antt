@@ -1,7 +1,7 @@
 -- Constraint records, computed, over one node: Var 3.
 use Prim.Native.Nat.{ℕ}
 use mathlib.Core.Path.{_≡_, refl}
-use mathlib.Core.List.{List, [], _∷_, _++_}
+use mathlib.Core.List.{List, [], _∷_}
 use lib.ListN.{length, getD, set, replicate}
 use Rattle.number.specs.Notation.{bits}
 use Rattle.tree.specs.Tree.{Tree}
@@ -11,7 +11,7 @@ use Rattle.constraint.specs.Constraint.{Constraint, end, _⨾_, numVars}
 use Rattle.constraint.specs.Records.{finished, none, recordsRefusal}
 use Rattle.constraint.specs.Starts.{startAt}
 use Rattle.constraint.specs.Fingerprint.{fingerprint}
-use Rattle.constraint.specs.Comparison.{recordBytes}
+use Rattle.constraint.specs.Comparison.{recordsBytes}
 use Rattle.constraint.specs.Computing.{computing}
 use Rattle.constraint.specs.declared.Relation.{Relation}
 use Rattle.constraint.specs.declared.Record.{Record}
@@ -19,12 +19,8 @@ use Rattle.constraint.specs.declared.Record.{Record}
 abbrev nodes : List ℕ
 nodes = nodesBytes (Node.Var 3 ∷ [])
 
-unfoldable bytes : List Record → List ℕ
-bytes [] = []
-bytes (r ∷ rs) = recordBytes r ++ bytes rs
-
 abbrev refusal : List Record → ℕ
-refusal rs = recordsRefusal nodes 1 (bytes rs) (length rs)
+refusal rs = recordsRefusal nodes 1 (recordsBytes rs) (length rs)
 
 abbrev atom : Record
 atom = Record.Atom Relation.LtZero 0
@@ -47,15 +43,15 @@ abbrev constraint : Constraint
 constraint = Constraint.Or (Constraint.Atom Relation.LtZero (Tree.Var 3) ⨾ Constraint.Not (Constraint.ForAll 5 (bits lo) (bits hi) (Constraint.Atom Relation.LtZero (Tree.Var 3))) ⨾ end)
 
 some-accepted : refusal some ≡ 0
-unfolding computing bytes
+unfolding computing
 some-accepted = refl
 
-some-starts : startAt (bytes some) 3 ≡ 1
-unfolding computing bytes
+some-starts : startAt (recordsBytes some) 3 ≡ 1
+unfolding computing
 some-starts = refl
 
-some-constraint : getD (finished nodes (bytes some) 5) 0 none ≡ constraint
-unfolding computing bytes
+some-constraint : getD (finished nodes (recordsBytes some) 5) 0 none ≡ constraint
+unfolding computing
 some-constraint = refl
 
 some-vars : numVars constraint ≡ 6
@@ -68,48 +64,48 @@ some-print = refl
 
 -- an empty And stands alone
 empty : refusal (Record.And 0 ∷ []) ≡ 0
-unfolding computing bytes
+unfolding computing
 empty = refl
 
 -- 5: a node that is not there, an unused byte, variable 16, too few finished constraints
 no-node : refusal (Record.Atom Relation.EqZero 1 ∷ []) ≡ 5
-unfolding computing bytes
+unfolding computing
 no-node = refl
 
-unused-byte : recordsRefusal nodes 1 (set (bytes (atom ∷ [])) 23 1) 1 ≡ 5
-unfolding computing bytes
+unused-byte : recordsRefusal nodes 1 (set (recordsBytes (atom ∷ [])) 23 1) 1 ≡ 5
+unfolding computing
 unused-byte = refl
 
 variable-16 : refusal (atom ∷ Record.Exists 16 (bits lo) (bits hi) ∷ []) ≡ 5
-unfolding computing bytes
+unfolding computing
 variable-16 = refl
 
 too-few : refusal (atom ∷ Record.And 2 ∷ []) ≡ 5
-unfolding computing bytes
+unfolding computing
 too-few = refl
 
 -- 6: a reversed range
 reversed : refusal (atom ∷ Record.ForAll 5 (bits hi) (bits lo) ∷ []) ≡ 6
-unfolding computing bytes
+unfolding computing
 reversed = refl
 
 -- 7: depth 17, five quantifiers on a path, two left, none left
 deep : refusal (atom ∷ replicate 16 Record.Not) ≡ 7
-unfolding computing bytes
+unfolding computing
 deep = refl
 
 depth-16 : refusal (atom ∷ replicate 15 Record.Not) ≡ 0
-unfolding computing bytes
+unfolding computing
 depth-16 = refl
 
 five-quantifiers : refusal (atom ∷ replicate 5 forall) ≡ 7
-unfolding computing bytes
+unfolding computing
 five-quantifiers = refl
 
 two-left : refusal (atom ∷ atom ∷ []) ≡ 7
-unfolding computing bytes
+unfolding computing
 two-left = refl
 
 none-left : refusal [] ≡ 7
-unfolding computing bytes
+unfolding computing
 none-left = refl

@@ -2,11 +2,12 @@ pub mod Constraint
 pub mod Records
 pub mod Starts
 pub mod StartLaws
+pub mod Fingerprint
+pub mod Comparison
+pub mod Writing
 pub mod RecordLaws
 pub mod VarLaws
 pub mod Code
-pub mod Fingerprint
-pub mod Comparison
 pub mod ComparisonLaws
 pub mod Computing
 pub mod Examples

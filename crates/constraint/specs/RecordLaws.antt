@@ -6,11 +6,12 @@ use mathlib.Core.List.{List, [], _∷_, _++_}
 use native.Mathlib.Omega.{arith}
 use borrow.Author.Tests.{leb-true, ltb-true, eqb-true}
 use lib.Dec.{T, leb, ltb, eqb}
-use lib.Ieee.{Float, binary64}
+use lib.Ieee.{Float, binary64, fits}
+use lib.Ieee.Bits.{ofBits-fits}
 use lib.ListN.{length, getD, length-append}
 use Rattle.number.specs.Notation.{if_then_else_}
 use Rattle.number.specs.Halving.{sound}
-use Rattle.tree.specs.Bytes.{u32At, u64At}
+use Rattle.tree.specs.Bytes.{u32At, u64At, f64At}
 use Rattle.tree.specs.Refusal.{_unless_, first, passing, filled}
 use Rattle.tree.specs.RefusalLaws.{both, none-both, none-unless, none-of-each, passing-all, length-filled, filled-at}
 use Rattle.tree.specs.Nodes.{treeAt, Valid}
@@ -18,6 +19,7 @@ use Rattle.tree.specs.NodeLaws.{prefix as nodes-prefix}
 use Rattle.constraint.specs.Constraint.{Constraint, levels, quantifiers}
 use Rattle.constraint.specs.Records.{recordAt, isRecord, isRanged, takes, gather, none, finish, finished, constraintAt, recordRefusal, recordsRefusal}
 use Rattle.constraint.specs.Starts.{startAt, upTo, Ready, Taken}
+use Rattle.constraint.specs.Writing.{Writable}
 use Rattle.constraint.specs.StartLaws.{chain, constraint-of, start-below, length-up-to, height-below}
 use Rattle.constraint.specs.declared.Relation.{Relation}
 use Rattle.constraint.specs.declared.Record.{Record}
@@ -28,38 +30,38 @@ Right n (Record.Atom rel i) = i < n
 Right n Record.Not = Unit {0}
 Right n (Record.And m) = Unit {0}
 Right n (Record.Or m) = Unit {0}
-Right n (Record.ForAll v lo hi) = v < 16
-Right n (Record.Exists v lo hi) = v < 16
+Right n (Record.ForAll v lo hi) = (v < 16) × T (fits binary64 lo) × T (fits binary64 hi)
+Right n (Record.Exists v lo hi) = (v < 16) × T (fits binary64 lo) × T (fits binary64 hi)
 
-right-of : (n arg : ℕ) (rel : Relation) (lo hi : Float) (atom not and or forall exists arg0 blank : Bool) →
+right-of : (n arg : ℕ) (rel : Relation) (lo hi : Float) → T (fits binary64 lo) → T (fits binary64 hi) → (atom not and or forall exists arg0 blank : Bool) →
     (if atom then ltb arg n && blank else if not then arg0 && blank else if and then blank else if or then blank else if forall then ltb arg 16 else if exists then ltb arg 16 else false) ≡ true →
     Right n (if atom then Record.Atom rel arg else if not then Record.Not else if and then Record.And arg else if or then Record.Or arg else if forall then Record.ForAll arg lo hi else Record.Exists arg lo hi)
 unfolding if_then_else_
-right-of n arg rel lo hi true not and or forall exists arg0 blank e = ltb-true arg n (both (ltb arg n) blank e .0)
-right-of n arg rel lo hi false true and or forall exists arg0 blank e = tt
-right-of n arg rel lo hi false false true or forall exists arg0 blank e = tt
-right-of n arg rel lo hi false false false true forall exists arg0 blank e = tt
-right-of n arg rel lo hi false false false false true exists arg0 blank e = ltb-true arg 16 e
-right-of n arg rel lo hi false false false false false true arg0 blank e = ltb-true arg 16 e
-right-of n arg rel lo hi false false false false false false arg0 blank e = absurd (subst T (sym e) tt)
+right-of n arg rel lo hi l h true not and or forall exists arg0 blank e = ltb-true arg n (both (ltb arg n) blank e .0)
+right-of n arg rel lo hi l h false true and or forall exists arg0 blank e = tt
+right-of n arg rel lo hi l h false false true or forall exists arg0 blank e = tt
+right-of n arg rel lo hi l h false false false true forall exists arg0 blank e = tt
+right-of n arg rel lo hi l h false false false false true exists arg0 blank e = (ltb-true arg 16 e, l, h)
+right-of n arg rel lo hi l h false false false false false true arg0 blank e = (ltb-true arg 16 e, l, h)
+right-of n arg rel lo hi l h false false false false false false arg0 blank e = absurd (subst T (sym e) tt)
 
 right : (n : ℕ) (b : List ℕ) (k : ℕ) → isRecord n b k ≡ true → Right n (recordAt b k)
-unfolding isRecord recordAt
+unfolding isRecord recordAt f64At
 right n b k e =
     let at = 24 * k in
     let kind = u32At b at in
     let arg = u32At b (at + 4) in
-    right-of n arg _ _ _ (ltb kind 6) (eqb kind 6) (eqb kind 7) (eqb kind 8) (eqb kind 9) (eqb kind 10) (eqb arg 0) (eqb (u64At b (at + 8)) 0 && eqb (u64At b (at + 16)) 0) e
+    right-of n arg _ _ _ (ofBits-fits binary64 _) (ofBits-fits binary64 _) (ltb kind 6) (eqb kind 6) (eqb kind 7) (eqb kind 8) (eqb kind 9) (eqb kind 10) (eqb arg 0) (eqb (u64At b (at + 8)) 0 && eqb (u64At b (at + 16)) 0) e
 
 -- ---- a record that passed
-record Stands (nodes : List ℕ) (n : ℕ) (b : List ℕ) (k : ℕ) : Type 0 where
+pub record Stands (nodes : List ℕ) (n : ℕ) (b : List ℕ) (k : ℕ) : Type 0 where
   is-record : isRecord n b k ≡ true
-  enough : takes (recordAt b k) ≤ length (finished nodes b k)
-  ranged : isRanged (recordAt b k) ≡ true
-  shallow : levels (constraintAt nodes b k) ≤ 16
-  few : quantifiers (constraintAt nodes b k) ≤ 4
+  pub enough : takes (recordAt b k) ≤ length (finished nodes b k)
+  pub ranged : isRanged (recordAt b k) ≡ true
+  pub shallow : levels (constraintAt nodes b k) ≤ 16
+  pub few : quantifiers (constraintAt nodes b k) ≤ 4
 
-stands : (nodes : List ℕ) (n : ℕ) (b : List ℕ) (k : ℕ) → recordRefusal nodes n b k ≡ 0 → Stands nodes n b k
+pub stands : (nodes : List ℕ) (n : ℕ) (b : List ℕ) (k : ℕ) → recordRefusal nodes n b k ≡ 0 → Stands nodes n b k
 unfolding recordRefusal
 stands nodes n b k e =
     let t = leb (takes (recordAt b k)) (length (finished nodes b k)) in
@@ -70,6 +72,21 @@ stands nodes n b k e =
     let y = none-both (6 unless isRanged (recordAt b k)) _ (w .1) in
     let z = both l q (none-unless 6 (l && q) (y .1)) in
     record { is-record = x .0; enough = leb-true _ _ (x .1); ranged = none-unless 5 (isRanged (recordAt b k)) (y .0); shallow = leb-true _ _ (z .0); few = leb-true _ _ (z .1) }
+
+-- it can be written again
+pub writable : (nodes : List ℕ) (n : ℕ) (b : List ℕ) (k : ℕ) → k < 1024 → Stands nodes n b k → Writable n (recordAt b k)
+writable nodes n b k h s = of (recordAt b k) refl
+  where
+    says : (x : Record) → recordAt b k ≡ x → Right n x × (takes x ≤ length (finished nodes b k))
+    says x e = subst (λ (y : Record). Right n y × (takes y ≤ length (finished nodes b k))) e (right n b k (s .is-record), s .enough)
+
+    of : (x : Record) → recordAt b k ≡ x → Writable n x
+    of (Record.Atom rel i) e = says (Record.Atom rel i) e .0
+    of Record.Not e = tt
+    of (Record.And m) e = omega (arith, says (Record.And m) e .1, height-below nodes b k)
+    of (Record.Or m) e = omega (arith, says (Record.Or m) e .1, height-below nodes b k)
+    of (Record.ForAll v lo hi) e = says (Record.ForAll v lo hi) e .0
+    of (Record.Exists v lo hi) e = says (Record.Exists v lo hi) e .0
 
 -- ---- records that passed
 module _ (nodes b : List ℕ) (n : ℕ) (starts : List ℕ) (p : Ready nodes b n starts) where
@@ -169,7 +186,7 @@ module _ (nodes b : List ℕ) (k : ℕ) (starts : List ℕ) (p : Ready nodes b (
     at-forall = constraint-here (Record.ForAll v lo hi) e ∙ ap (Constraint.ForAll v lo hi) (inside-is (Record.ForAll v lo hi) e refl)
 
     pub forall-range : (v < 16) × (sound binary64 lo hi ≡ true)
-    forall-range = (right-here (Record.ForAll v lo hi) e, ranged-here (Record.ForAll v lo hi) e)
+    forall-range = (right-here (Record.ForAll v lo hi) e .0, ranged-here (Record.ForAll v lo hi) e)
 
   module _ (v : ℕ) (lo hi : Float) (e : recordAt b k ≡ Record.Exists v lo hi) where
     pub at-exists : constraintAt nodes b k ≡ Constraint.Exists v lo hi (constraintAt nodes b (k - 1))
@@ -177,7 +194,7 @@ module _ (nodes b : List ℕ) (k : ℕ) (starts : List ℕ) (p : Ready nodes b (
     at-exists = constraint-here (Record.Exists v lo hi) e ∙ ap (Constraint.Exists v lo hi) (inside-is (Record.Exists v lo hi) e refl)
 
     pub exists-range : (v < 16) × (sound binary64 lo hi ≡ true)
-    exists-range = (right-here (Record.Exists v lo hi) e, ranged-here (Record.Exists v lo hi) e)
+    exists-range = (right-here (Record.Exists v lo hi) e .0, ranged-here (Record.Exists v lo hi) e)
 
 -- ---- those that a record takes: all but the last, and the last
 module _ (nodes b : List ℕ) (m n : ℕ) (starts : List ℕ) (q : Taken nodes b m n starts) where

@@ -12,17 +12,13 @@ use Rattle.tree.specs.Tree.{Tree}
 use Rattle.tree.specs.Canonical.{nodesBytes}
 use Rattle.tree.specs.declared.Node.{Node}
 use Rattle.constraint.specs.Constraint.{Constraint}
-use Rattle.constraint.specs.Comparison.{recordBytes}
+use Rattle.constraint.specs.Comparison.{recordsBytes}
 use Rattle.constraint.specs.declared.Relation.{Relation}
 use Rattle.constraint.specs.declared.Record.{Record}
 use Rattle.file.specs.File.{refusal, readFile, givenRefusal, Accepted}
 use Rattle.file.specs.Computing.{computing}
 
 -- ---- a file from its parts
-unfoldable recordsBytes : List Record → List ℕ
-recordsBytes [] = []
-recordsBytes (r ∷ rs) = recordBytes r ++ recordsBytes rs
-
 unfoldable boundsBytes : List Interval → List ℕ
 boundsBytes [] = []
 boundsBytes (i ∷ is) = u64Bytes (toBits binary64 (i .lo)) ++ u64Bytes (toBits binary64 (i .hi)) ++ boundsBytes is
@@ -36,7 +32,7 @@ file ns rs is =
     69 ∷ 77 ∷ 76 ∷ 81 ∷ 1 ∷ 0 ∷ 0 ∷ 0 ∷ contents (length ns) (length rs) (length is) ++ nodesBytes ns ++ recordsBytes rs ++ boundsBytes is
 
 unfoldable making : Unit {0}
-unfolding computing recordsBytes boundsBytes
+unfolding computing boundsBytes
 making = tt
 
 -- ---- GtZero of Var 0, bounds [1, 3], 88 bytes

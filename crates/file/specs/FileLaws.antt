@@ -89,7 +89,7 @@ module _ (nodes : List ℕ) (count : ℕ) (b : List ℕ) (n : ℕ) (e : recordsR
   some-record : 0 < n
   some-record = root nodes b n (one-left nodes count b n e) .0
 
-  left-is : left nodes b n ≡ constraintAt nodes b (n - 1)
+  pub left-is : left nodes b n ≡ constraintAt nodes b (n - 1)
   unfolding left
   left-is = root nodes b n (one-left nodes count b n e) .1
 
@@ -143,7 +143,7 @@ module _ (file : List ℕ) (e : refusal file ≡ 0) (nodes b : List ℕ) (n : �
 
 -- ---- accepted records
 module _ (nodes b : List ℕ) (e : givenRefusal nodes b ≡ 0) where
-  passed-given : (isCounted nodes b ≡ true) × (nodesRefusal nodes (length nodes / 16) ≡ 0) × (recordsRefusal nodes (length nodes / 16) b (length b / 24) ≡ 0)
+  pub passed-given : (isCounted nodes b ≡ true) × (nodesRefusal nodes (length nodes / 16) ≡ 0) × (recordsRefusal nodes (length nodes / 16) b (length b / 24) ≡ 0)
   unfolding givenRefusal
   passed-given =
       let w₁ = none-both (2 unless isCounted nodes b) _ e in

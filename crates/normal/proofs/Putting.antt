@@ -5,15 +5,16 @@ use mathlib.Core.List.{List, [], _∷_, _++_, append-assoc, append-nil}
 use native.Mathlib.Nat.{add-zero}
 use native.Mathlib.Omega.{arith}
 use lib.Ieee.{Float, binary64, toBits}
-use lib.ListN.{length, length-append}
+use lib.ListN.{length-append}
 use lib.Seq.{sets}
 use Rattle.tree.specs.Bytes.{u32Bytes, u64Bytes}
 use Rattle.tree.specs.Writing.{then-bytes}
 use Rattle.constraint.specs.declared.Record.{Record}
 use Rattle.constraint.specs.declared.Relation.{Relation}
 use Rattle.constraint.specs.Fingerprint.{kindOf}
-use Rattle.constraint.specs.Comparison.{recordBytes}
-use Rattle.normal.specs.Written.{recordsBytes, Puts}
+use Rattle.constraint.specs.Comparison.{recordBytes, recordsBytes}
+use Rattle.constraint.specs.Writing.{length-records}
+use Rattle.normal.specs.Written.{Puts}
 
 -- ---- words
 pub two-words : (b : List ℕ) {b₁ b₂ : List ℕ} (at n : ℕ) → b₁ ≡ sets b at (u32Bytes (n % 2 ^ 32)) → b₂ ≡ sets b₁ (at + 4) (u32Bytes (n / 2 ^ 32)) → b₂ ≡ sets b at (u64Bytes n)
@@ -30,20 +31,6 @@ record-words b at kind arg lo hi e₁ e₂ e₃ e₄ =
     then-bytes b at (at + 16) (P ++ Q ++ R) (u64Bytes hi) (then-bytes b at (at + 8) (P ++ Q) R (then-bytes b at (at + 4) P Q e₁ e₂ refl) e₃ refl) e₄ refl
 
 -- ---- records
-length-record : (r : Record) → length (recordBytes r) ≡ 24
-unfolding recordBytes u64Bytes u32Bytes
-length-record (Record.Atom rel i) = refl
-length-record Record.Not = refl
-length-record (Record.And m) = refl
-length-record (Record.Or m) = refl
-length-record (Record.ForAll v lo hi) = refl
-length-record (Record.Exists v lo hi) = refl
-
-pub length-records : (rs : List Record) → length (recordsBytes rs) ≡ 24 * length rs
-unfolding recordsBytes
-length-records [] = refl
-length-records (r ∷ rs) = length-append (recordBytes r) (recordsBytes rs) ∙ omega (arith, length-record r, length-records rs)
-
 bytes-append : (xs ys : List Record) → recordsBytes xs ++ recordsBytes ys ≡ recordsBytes (xs ++ ys)
 unfolding recordsBytes
 bytes-append [] ys = refl

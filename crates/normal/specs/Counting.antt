@@ -1,18 +1,14 @@
 -- A normal form has as many records as the constraint's own less its Nots. Assumes nothing.
-use Prim.Native.Nat.{ℕ, zero, suc, _+_, _-_, _≤_, _<_}
+use Prim.Native.Nat.{ℕ, zero, suc, _+_, _-_, _≤_}
 use mathlib.Core.Path.{_≡_, refl, sym, ap, _∙_}
-use mathlib.Core.Bool.{_&&_}
 use mathlib.Core.List.{List, [], _∷_, _++_}
 use native.Mathlib.Omega.{arith}
-use borrow.Author.Tests.{leb-true}
-use lib.Dec.{leb}
 use lib.ListN.{length, getD, take, drop, length-append, length-drop}
-use Rattle.tree.specs.Refusal.{_unless_}
-use Rattle.tree.specs.RefusalLaws.{both, none-both, none-unless}
 use Rattle.constraint.specs.declared.Record.{Record}
 use Rattle.constraint.specs.Constraint.{Constraint, Constraints, Atom, Not, And, Or, ForAll, Exists, end, _⨾_}
-use Rattle.constraint.specs.Records.{recordAt, isRecord, takes, gather, none, finish, finished, recordRefusal}
+use Rattle.constraint.specs.Records.{recordAt, takes, gather, none, finish, finished}
 use Rattle.constraint.specs.Starts.{Ready}
+use Rattle.constraint.specs.RecordLaws.{stands}
 use Rattle.normal.specs.NormalForm.{toNnf, negate, toNnfAll, negateAll}
 use Rattle.normal.specs.Written.{recordsOf, recordsOfAll}
 use Rattle.normal.specs.Given.{keptOf, countKept}
@@ -100,20 +96,13 @@ finish-kept nodes (Record.ForAll v lo hi) cs e = omega (arith, total-one cs e)
 finish-kept nodes (Record.Exists v lo hi) cs e = omega (arith, total-one cs e)
 
 module _ (nodes b : List ℕ) (n : ℕ) (starts : List ℕ) (p : Ready nodes b n starts) where
-  enough : (k : ℕ) → k < n → takes (recordAt b k) ≤ length (finished nodes b k)
-  unfolding recordRefusal
-  enough k l =
-      let t = leb (takes (recordAt b k)) (length (finished nodes b k)) in
-      let w = none-both (5 unless isRecord (p .count) b k && t) _ (p .passed k l) in
-      leb-true _ _ (both (isRecord (p .count) b k) t (none-unless 4 (isRecord (p .count) b k && t) (w .0)) .1)
-
   all-kept : (k : ℕ) → k ≤ n → total (finished nodes b k) ≡ countKept b k
   unfolding finished countKept total
   all-kept zero h = refl
   all-kept (suc k) h =
       let before = finished nodes b k in
       let base = length before - takes (recordAt b k) in
-      let e = enough k h in
+      let e = stands nodes (p .count) b k (p .passed k h) .enough in
       total-snoc (take base before) _
       ∙ omega (arith, total-split base before, all-kept k (omega arith), finish-kept nodes (recordAt b k) (drop base before) (length-drop base before ∙ omega arith))
 

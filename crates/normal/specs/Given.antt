@@ -7,9 +7,10 @@ use lib.Seq.{sets}
 use Rattle.tree.specs.Refusal.{_or-else_, _unless_}
 use Rattle.constraint.specs.declared.Record.{Record}
 use Rattle.constraint.specs.Records.{recordAt}
+use Rattle.constraint.specs.Comparison.{recordsBytes}
 use Rattle.file.specs.File.{left, givenRefusal}
 use Rattle.normal.specs.NormalForm.{toNnf}
-use Rattle.normal.specs.Written.{numbers, recordsOf, recordsBytes}
+use Rattle.normal.specs.Written.{numbers, recordsOf}
 use Rattle.normal.specs.declared.Nnf.{Nnf}
 
 -- how many records are no Not

@@ -4,3 +4,7 @@ pub mod NumberLaws
 pub mod Renaming
 pub mod Given
 pub mod Counting
+pub mod Fitting
+pub mod Passing
+pub mod ReadBack
+pub mod Examples

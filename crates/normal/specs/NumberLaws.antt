@@ -2,7 +2,7 @@
 use Prim.Native.Nat.{ℕ, zero, suc, _+_, _*_, _/_, _%_, _^_, _≤_, _<_}
 use mathlib.Core.Path.{_≡_, refl, sym, ap, ap₂, _∙_}
 use mathlib.Core.Bool.{Bool, true, _&&_}
-use mathlib.Core.List.{List, [], _∷_, _++_}
+use mathlib.Core.List.{List}
 use mathlib.Core.Logic.{⊎-elim}
 use native.Mathlib.Nat.{add-zero, add-suc, zero-add, suc-add, le-of-suc-le-suc, eq-or-lt-of-le}
 use borrow.Author.Tests.{eqb-true}
@@ -12,16 +12,15 @@ use lib.Dec.{eqb}
 use lib.Ieee.{binary64, ofBits, toBits}
 use lib.Ieee.Bits.{ofBits-fits, ofBits-toBits, toBits-lt}
 use lib.Ieee.Scale.{finite}
-use lib.ListN.{length, getD, List·getD-append}
-use lib.Seq.{getD-append-add}
+use lib.ListN.{length, getD}
 use Rattle.number.specs.Notation.{if_then_else_, bits}
 use Rattle.tree.specs.Bytes.{u32At, u64At, f64At, u32Bytes, u64Bytes}
 use Rattle.tree.specs.Tree.{Tree, size, depth, isSmall}
 use Rattle.tree.specs.Nodes.{nodeAt, isNode, treeAt, nodeRefusal, Valid}
 use Rattle.tree.specs.NodeLaws.{tree-const}
 use Rattle.tree.specs.Frame.{word-same}
-use Rattle.tree.specs.Writing.{length-node, length-nodes, u32-read}
-use Rattle.tree.specs.Canonical.{nodeBytes, nodesBytes}
+use Rattle.tree.specs.Writing.{length-nodes, node-byte, u32-read}
+use Rattle.tree.specs.Canonical.{nodeBytes}
 use Rattle.tree.specs.declared.Node.{Node}
 use Rattle.normal.specs.Written.{telling, numbers, toldBy}
 
@@ -53,17 +52,6 @@ telling-at : (i n j : ℕ) → j < n → getD (telling i n) j Node.One ≡ Node.
 telling-at i zero j h = absurd (omega arith)
 telling-at i (suc n) zero h = ap (λ (k : ℕ). Node.Const (bits k)) (sym (add-zero i))
 telling-at i (suc n) (suc j) h = telling-at (suc i) n j (omega arith) ∙ ap (λ (k : ℕ). Node.Const (bits k)) (suc-add i j ∙ sym (add-suc i j))
-
-node-byte : (xs : List Node) (j o : ℕ) → j < length xs → o < 16 → getD (nodesBytes xs) (16 * j + o) 0 ≡ getD (nodeBytes (getD xs j Node.One)) o 0
-unfolding nodesBytes
-node-byte [] j o h l = absurd (omega arith)
-node-byte (x ∷ xs) zero o h l =
-    ap (λ (i : ℕ). getD (nodeBytes x ++ nodesBytes xs) i 0) (zero-add o)
-    ∙ List·getD-append (nodeBytes x) (nodesBytes xs) 0 o (omega (arith, length-node x))
-node-byte (x ∷ xs) (suc j) o h l =
-    ap (λ (i : ℕ). getD (nodeBytes x ++ nodesBytes xs) i 0) (omega (arith, length-node x))
-    ∙ getD-append-add (nodeBytes x) (nodesBytes xs) (16 * j + o) 0
-    ∙ node-byte xs j o (omega arith) l
 
 pub length-numbers : length numbers ≡ 16 * 1024
 unfolding numbers

@@ -34,7 +34,7 @@ module _ (nodes : List ℕ) where
   mutual
     unfolding renamed levels
 
-    levels-same : (c : Constraint) → levels (renamed nodes c) ≡ levels c
+    pub levels-same : (c : Constraint) → levels (renamed nodes c) ≡ levels c
     levels-same (Atom rel t) = refl
     levels-same (Not c) = ap (λ (n : ℕ). 1 + n) (levels-same c)
     levels-same (And cs) = ap (λ (n : ℕ). 1 + n) (levels-all-same cs)
@@ -49,7 +49,7 @@ module _ (nodes : List ℕ) where
   mutual
     unfolding renamed quantifiers
 
-    quantifiers-same : (c : Constraint) → quantifiers (renamed nodes c) ≡ quantifiers c
+    pub quantifiers-same : (c : Constraint) → quantifiers (renamed nodes c) ≡ quantifiers c
     quantifiers-same (Atom rel t) = refl
     quantifiers-same (Not c) = quantifiers-same c
     quantifiers-same (And cs) = quantifiers-all-same cs
@@ -176,7 +176,7 @@ module _ (nodes b : List ℕ) (n : ℕ) (starts : List ℕ) (p : Ready nodes b n
   pub constraint-renamed : (k : ℕ) → k < n → constraintAt nodes b k ≡ renamed nodes (constraintAt numbers b k)
   constraint-renamed k l = here k l (all-renamed k (omega arith))
 
-  refusal-same : (count k : ℕ) → k < n → recordRefusal numbers count b k ≡ recordRefusal nodes count b k
+  pub refusal-same : (count k : ℕ) → k < n → recordRefusal numbers count b k ≡ recordRefusal nodes count b k
   unfolding recordRefusal
   refusal-same count k l =
       let c = constraint-renamed k l in

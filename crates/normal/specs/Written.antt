@@ -14,12 +14,12 @@ use Rattle.constraint.specs.Constraint.{Constraint, Constraints, Atom, Not, And
 use Rattle.constraint.specs.Records.{gather, constraintAt}
 use Rattle.constraint.specs.Starts.{upTo}
 use Rattle.constraint.specs.Fingerprint.{number}
-use Rattle.constraint.specs.Comparison.{recordBytes}
+use Rattle.constraint.specs.Comparison.{recordsBytes}
 use Rattle.normal.specs.NormalForm.{toNnf, negate, toNnfAll, negateAll}
 
 -- ---- node numbers
 -- An atom's record has its node's number, where the meaning has its tree. So constraints that are to be written again are read over nodes
--- that tell their numbers: node i is the constant whose bits are i.
+-- that tell their numbers: node i is the constant whose bits are i. (`ReadBack`: over the caller's own nodes, what is written says the normal form.)
 abbrev pub telling : ℕ → ℕ → List Node
 telling i zero = []
 telling i (suc n) = Node.Const (bits i) ∷ telling (suc i) n
@@ -46,10 +46,6 @@ unfoldable mutual
   pub recordsOfAll : Constraints → List Record
   recordsOfAll end = []
   recordsOfAll (c ⨾ cs) = recordsOf c ++ recordsOfAll cs
-
-unfoldable pub recordsBytes : List Record → List ℕ
-recordsBytes [] = []
-recordsBytes (r ∷ rs) = recordBytes r ++ recordsBytes rs
 
 -- ---- of the normal form and of the negation of constraint k, and of the last m that are finished before record n
 unfoldable pub nnfAt : List ℕ → ℕ → List Record

@@ -14,7 +14,7 @@ sets-sets : (b u v : List ℕ) (at next : ℕ) → next ≡ at + length u → se
 sets-sets b [] v at next e = ap (λ (i : ℕ). sets b i v) (e ∙ add-zero at)
 sets-sets b (x ∷ u) v at next e = sets-sets (set b at x) u v (suc at) next (e ∙ add-suc at (length u) ∙ sym (suc-add at (length u)))
 
-pub length-node : (x : Node) → length (nodeBytes x) ≡ 16
+length-node : (x : Node) → length (nodeBytes x) ≡ 16
 unfolding nodeBytes u32Bytes u64Bytes
 length-node Node.One = refl
 length-node (Node.Const v) = refl
@@ -81,7 +81,7 @@ sets-at (v ∷ vs) b at (suc i) h g =
     ∙ sets-at vs (set b at v) (suc at) i (omega arith) (rw (length-set b at v) (omega arith))
 
 -- byte o of node j
-node-byte : (xs : List Node) (j o : ℕ) → j < length xs → o < 16 → getD (nodesBytes xs) (16 * j + o) 0 ≡ getD (nodeBytes (getD xs j Node.One)) o 0
+pub node-byte : (xs : List Node) (j o : ℕ) → j < length xs → o < 16 → getD (nodesBytes xs) (16 * j + o) 0 ≡ getD (nodeBytes (getD xs j Node.One)) o 0
 unfolding nodesBytes
 node-byte [] j o h l = absurd (omega arith)
 node-byte (x ∷ xs) zero o h l =
