@@ -1,11 +1,12 @@
 -- A list with one constraint more at its end, for recursions that go oldest first. Assumes nothing.
-use Prim.Native.Nat.{ℕ, suc}
+use Prim.Native.Nat.{ℕ}
 use mathlib.Core.Path.{_≡_, refl, sym, ap, _∙_}
 use mathlib.Core.List.{List, [], _∷_, _++_}
 use lib.ListN.{length}
 use Rattle.tree.specs.Fingerprint.{mix}
 use Rattle.constraint.specs.Constraint.{Constraint}
 use Rattle.constraint.specs.Records.{gather}
+use Rattle.constraint.specs.RecordLaws.{number-gather}
 use Rattle.constraint.specs.Fingerprint.{number, fingerprint, fingerprints}
 
 pub fingerprints-snoc : (cs : List Constraint) (c : Constraint) (h : ℕ) → fingerprints (gather (cs ++ c ∷ [])) h ≡ mix (fingerprints (gather cs) h) (fingerprint c)
@@ -13,11 +14,6 @@ unfolding gather fingerprints
 fingerprints-snoc [] c h = refl
 fingerprints-snoc (x ∷ cs) c h = fingerprints-snoc cs c (mix h (fingerprint x))
 
-pub number-is : (cs : List Constraint) → number (gather cs) ≡ length cs
-unfolding gather number
-number-is [] = refl
-number-is (x ∷ cs) = ap suc (number-is cs)
-
 -- a fingerprint from the number of those that a record takes
 pub mix-number : (cs : List Constraint) (m k r : ℕ) → length cs ≡ m → r ≡ mix k m → fingerprints (gather cs) r ≡ fingerprints (gather cs) (mix k (number (gather cs)))
-mix-number cs m k r e h = ap (fingerprints (gather cs)) (h ∙ ap (mix k) (sym (number-is cs ∙ e)))
+mix-number cs m k r e h = ap (fingerprints (gather cs)) (h ∙ ap (mix k) (sym (number-gather cs ∙ e)))

@@ -19,10 +19,16 @@ use Rattle.tree.specs.NodeLaws.{prefix as nodes-prefix}
 use Rattle.constraint.specs.Constraint.{Constraint, levels, quantifiers}
 use Rattle.constraint.specs.Records.{recordAt, isRecord, isRanged, takes, gather, none, finish, finished, constraintAt, recordRefusal, recordsRefusal}
 use Rattle.constraint.specs.Starts.{startAt, upTo, Ready, Taken}
+use Rattle.constraint.specs.Fingerprint.{number}
 use Rattle.constraint.specs.Writing.{Writable}
 use Rattle.constraint.specs.StartLaws.{chain, constraint-of, start-below, length-up-to, height-below}
 use Rattle.constraint.specs.declared.Relation.{Relation}
 use Rattle.constraint.specs.declared.Record.{Record}
+
+pub number-gather : (cs : List Constraint) → number (gather cs) ≡ length cs
+unfolding gather number
+number-gather [] = refl
+number-gather (c ∷ cs) = ap suc (number-gather cs)
 
 -- ---- what a record that is one says
 abbrev Right : ℕ → Record → Type 0

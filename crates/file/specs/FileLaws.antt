@@ -1,5 +1,5 @@
 -- Laws of files that are laid out, and of files and records that are accepted: what a function that takes one cites. Assumes nothing.
-use Prim.Native.Nat.{ℕ, _+_, _*_, _-_, _/_, _%_, _≤_, _<_}
+use Prim.Native.Nat.{ℕ, suc, _+_, _*_, _-_, _/_, _%_, _≤_, _<_}
 use mathlib.Core.Path.{_≡_, _∙_}
 use mathlib.Core.Bool.{true, _&&_}
 use mathlib.Core.List.{List, []}
@@ -18,7 +18,7 @@ use Rattle.tree.specs.NodeLaws.{list-valid}
 use Rattle.constraint.specs.Records.{constraintAt, recordsRefusal}
 use Rattle.constraint.specs.Starts.{Ready}
 use Rattle.constraint.specs.RecordLaws.{ready, one-left, root}
-use Rattle.file.specs.File.{nodeCount, constraintCount, boundCount, constraintsFrom, boundsFrom, nodesOf, constraintsOf, boundsOf, isHeaded, isLaidOut, boundAt, bounds, boundRefusal, refusal, Accepted, left, readFile, isCounted, givenRefusal, readGiven}
+use Rattle.file.specs.File.{nodeCount, constraintCount, boundCount, constraintsFrom, boundsFrom, nodesOf, constraintsOf, boundsOf, isHeaded, isLaidOut, boundAt, bounds, boundRefusal, refusal, Refused, Accepted, left, readFile, isCounted, givenRefusal, readGiven}
 use Rattle.file.specs.Code.{Laid, startsBy, bodiesStarts, fileStarts, givenStarts}
 
 -- ---- laid out
@@ -83,6 +83,10 @@ counted nodes b e =
 pub given-fit : (nodes : List ℕ) → length nodes / 16 ≤ 1024 → nodesFit (length nodes) (length nodes / 16) ≡ true
 unfolding nodesFit
 given-fit nodes h = rw (le-leb (length nodes / 16) 1024 h, le-leb (16 * (length nodes / 16)) (length nodes) (omega arith))
+
+pub given-refused : (nodes b : List ℕ) (r : ℕ) → givenRefusal nodes b ≡ suc r → readGiven nodes b ≡ Refused (suc r)
+unfolding readGiven
+given-refused nodes b r e = rw e
 
 -- ---- what is left of records that passed
 module _ (nodes : List ℕ) (count : ℕ) (b : List ℕ) (n : ℕ) (e : recordsRefusal nodes count b n ≡ 0) where

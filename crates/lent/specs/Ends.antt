@@ -14,6 +14,7 @@ use Rattle.constraint.specs.Constraint.{Constraint}
 use Rattle.file.specs.File.{Read, readGiven}
 use Rattle.narrow.specs.declared.Propagated.{Propagated}
 use Rattle.narrow.specs.Narrowing.{propagate}
+use Rattle.narrow.specs.Promise.{of-ends}
 use Rattle.narrow.specs.Given as Given
 use Rattle.narrow.specs.Given.{_leaving_and_, lows, highs, propagateGiven}
 use Rattle.lent.specs.Lent.{Outcome, _leaving_, inBoxes, byRecords, propagateLent}
@@ -26,11 +27,6 @@ pub highs-length : (ys : List Interval) → length (highs ys) ≡ length ys
 highs-length [] = refl
 highs-length (y ∷ ys) = ap suc (highs-length ys)
 
-back : (ys : List Interval) → intervals (lows ys) (highs ys) ≡ ys
-unfolding intervals
-back [] = refl
-back (y ∷ ys) = ap (λ (r : List Interval). y ∷ r) (back ys)
-
 -- an outcome, its list as two lists of ends
 abbrev pub ends : Outcome → Given.Outcome
 ends o = o .answer leaving lows (o .boxes) and highs (o .boxes)
@@ -38,11 +34,11 @@ ends o = o .answer leaving lows (o .boxes) and highs (o .boxes)
 module _ (σ : Settings) (ys : List Interval) where
   boxes-are : areBoxes (lows ys) (highs ys) ≡ leb (length ys) 16 && allSound ys
   unfolding areBoxes
-  boxes-are = rw (lows-length ys, highs-length ys, back ys, eq-eqb (length ys) (length ys) refl) refl
+  boxes-are = rw (lows-length ys, highs-length ys, of-ends ys, eq-eqb (length ys) (length ys) refl) refl
 
   in-boxes : (t : Bool) (c : Constraint) → Given.inBoxes t σ c (lows ys) (highs ys) ≡ ends (inBoxes t σ c ys)
   in-boxes false c = refl
-  in-boxes true c = ap (λ (b : List Interval). ends (Propagated.Answered (propagate σ c b .result) leaving propagate σ c b .boxes)) (back ys)
+  in-boxes true c = ap (λ (b : List Interval). ends (Propagated.Answered (propagate σ c b .result) leaving propagate σ c b .boxes)) (of-ends ys)
 
   by-records : (r : Read) → Given.byRecords σ r (lows ys) (highs ys) ≡ ends (byRecords σ r ys)
   by-records (Read.Refused n) = refl

@@ -15,7 +15,7 @@ use Rattle.tree.specs.RefusalLaws.{both}
 use Rattle.constraint.specs.Constraint.{Constraint}
 use Rattle.constraint.specs.Records.{constraintAt}
 use Rattle.file.specs.File.{Read, givenRefusal, readGiven}
-use Rattle.file.specs.FileLaws.{given-is}
+use Rattle.file.specs.FileLaws.{given-is, given-refused}
 use Rattle.narrow.specs.declared.Propagated.{Propagated}
 use Rattle.narrow.specs.Held.{ConstraintHeld, constraint-held}
 use Rattle.narrow.specs.Promise.{propagate-keeps}
@@ -31,10 +31,6 @@ unfolding allSound
 each-sound [] f e = tt
 each-sound (i ∷ is) f e = let w = both (isSound i) (allSound is) e in (record { range = passed (w .0); ends = f .0 }, each-sound is (f .1) (w .1))
 
-refusing : (nodes constraints : List ℕ) (r : ℕ) → givenRefusal nodes constraints ≡ suc r → readGiven nodes constraints ≡ Read.Refused (suc r)
-unfolding readGiven
-refusing nodes constraints r z = rw z
-
 module _ (nodes constraints : List ℕ) (b : List Interval) (f : Each Ends b) where
   abbrev Kept : Outcome → Type 0
   Kept x = Keeps b (x .answer) (x .boxes)
@@ -47,7 +43,7 @@ module _ (nodes constraints : List ℕ) (b : List Interval) (f : Each Ends b) wh
   by-records zero z =
       let n = length constraints / 24 - 1 in
       subst (λ (x : Read). Kept (byRecords usual x b)) (sym (given-is nodes constraints z)) (in-boxes (leb (length b) 16 && allSound b) refl (constraintAt nodes constraints n) (constraint-held nodes constraints n))
-  by-records (suc r) z = subst (λ (x : Read). Kept (byRecords usual x b)) (sym (refusing nodes constraints r z)) refl
+  by-records (suc r) z = subst (λ (x : Read). Kept (byRecords usual x b)) (sym (given-refused nodes constraints r z)) refl
 
   -- every end being an f64
   pub lent-keeps : let x = propagateLent nodes constraints b in Keeps b (x .answer) (x .boxes)

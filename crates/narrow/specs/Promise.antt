@@ -14,8 +14,8 @@ use Rattle.interval.specs.Interval.{_‥_}
 use Rattle.interval.specs.Boxes.{intervals, allSound, areBoxes}
 use Rattle.tree.specs.RefusalLaws.{both}
 use Rattle.constraint.specs.Records.{constraintAt}
-use Rattle.file.specs.File.{Read, givenRefusal, readGiven}
-use Rattle.file.specs.FileLaws.{given-is}
+use Rattle.file.specs.File.{Read, givenRefusal}
+use Rattle.file.specs.FileLaws.{given-is, given-refused}
 use Rattle.narrow.specs.declared.PropResult.{PropResult}
 use Rattle.narrow.specs.declared.Propagated.{Propagated}
 use Rattle.narrow.specs.Given.{_leaving_and_, lows, highs, inBoxes, byRecords, propagateGiven}
@@ -52,14 +52,10 @@ boxes-sound (l ∷ lo) (h ∷ hi) p q e =
     let w = both (isSound (l ‥ h)) (allSound (intervals lo hi)) e in
     (record { range = passed (w .0); ends = record { lo = p .0; hi = q .0 } }, boxes-sound lo hi (p .1) (q .1) (w .1))
 
-back : (is : List Interval) → intervals (lows is) (highs is) ≡ is
+pub of-ends : (is : List Interval) → intervals (lows is) (highs is) ≡ is
 unfolding intervals
-back [] = refl
-back (i ∷ is) = ap (λ (r : List Interval). i ∷ r) (back is)
-
-given-refused : (nodes b : List ℕ) (r : ℕ) → givenRefusal nodes b ≡ suc r → readGiven nodes b ≡ Read.Refused (suc r)
-unfolding readGiven
-given-refused nodes b r z = rw z
+of-ends [] = refl
+of-ends (i ∷ is) = ap (λ (r : List Interval). i ∷ r) (of-ends is)
 
 -- the lists before and after, of a call that is not refused
 pub record Kept (lo hi lo′ hi′ : List Float) : Type 0 where
@@ -76,7 +72,7 @@ module _ (lo hi : List Float) (p : AllHeld lo) (q : AllHeld hi) (w : PropResult)
       let k = propagate-keeps usual c (intervals lo hi) f (boxes-sound lo hi p q (b .1)) in
       let l : lows (x .boxes) ≡ lo′ = cc in
       let h : highs (x .boxes) ≡ hi′ = cc in
-      let r = sym (back (x .boxes)) ∙ ap₂ intervals l h in
+      let r = sym (of-ends (x .boxes)) ∙ ap₂ intervals l h in
       record { inside = subst (EachInside (intervals lo hi)) r (k .0); sound = subst (Each Sound) r (k .1) }
 
   by-records : (nodes b : List ℕ) (r : ℕ) → givenRefusal nodes b ≡ r → propagateGiven nodes b lo hi ≡ (Propagated.Answered w leaving lo′ and hi′) → Kept lo hi lo′ hi′

@@ -29,19 +29,6 @@ pub kept-next : (b : List ℕ) (k : ℕ) {count x : ℕ} {r : Record} → count 
 unfolding countKept
 kept-next b k e f g = ap₂ (λ (c x : ℕ). c + x) e (g ∙ ap keptOf f) ∙ ap (countKept b) (sym (add-one k))
 
-one-at-most : (r : Record) → keptOf r ≤ 1
-one-at-most (Record.Atom rel i) = omega arith
-one-at-most Record.Not = omega arith
-one-at-most (Record.And m) = omega arith
-one-at-most (Record.Or m) = omega arith
-one-at-most (Record.ForAll v lo hi) = omega arith
-one-at-most (Record.Exists v lo hi) = omega arith
-
-pub kept-few : (b : List ℕ) (k : ℕ) → countKept b k ≤ k
-unfolding countKept
-kept-few b zero = omega arith
-kept-few b (suc k) = omega (arith, kept-few b k, one-at-most (recordAt b k))
-
 -- ---- the call
 module _ (nodes b out : List ℕ) where
   by : (r : ℕ) → nnfRefusal nodes b out ≡ r → written r (nnfRecords b (length b / 24)) out ≡ toNnfGiven nodes b out

@@ -1,36 +1,21 @@
 -- The records of the normal form and of the negation of a constraint, by what its record says. Assumes nothing.
-use Prim.Native.Nat.{ℕ, suc, _+_, _-_, _<_}
-use mathlib.Core.Path.{_≡_, refl, sym, ap, _∙_}
+use Prim.Native.Nat.{ℕ, _+_, _-_, _<_}
+use mathlib.Core.Path.{_≡_, sym, ap, _∙_}
 use mathlib.Core.List.{List, [], _∷_, _++_, append-assoc, append-nil}
 use native.Mathlib.Omega.{arith}
 use lib.Ieee.{Float}
-use lib.ListN.{length, getD}
+use lib.ListN.{getD}
 use Rattle.constraint.specs.declared.Relation.{Relation}
 use Rattle.constraint.specs.declared.Record.{Record}
-use Rattle.constraint.specs.Constraint.{Constraint, Constraints, end, _⨾_}
+use Rattle.constraint.specs.Constraint.{Constraint}
 use Rattle.constraint.specs.Records.{recordAt, gather, constraintAt}
 use Rattle.constraint.specs.Starts.{upTo, Ready, Taken}
 use Rattle.constraint.specs.Fingerprint.{number}
-use Rattle.constraint.specs.RecordLaws.{at-atom, atom-node, at-not, at-and, and-taken, at-or, or-taken, at-forall, forall-range, at-exists, exists-range, none-taken, few-taken, up-to}
+use Rattle.constraint.specs.RecordLaws.{number-gather, at-atom, atom-node, at-not, at-and, and-taken, at-or, or-taken, at-forall, forall-range, at-exists, exists-range, none-taken, few-taken, up-to}
 use Rattle.normal.specs.NormalForm.{oppositeOf, toNnf, negate, toNnfAll, negateAll}
 use Rattle.normal.specs.Written.{numbers, recordsOf, recordsOfAll, nnfAt, negationAt, nnfAll, negationAll}
 use Rattle.normal.specs.NumberLaws.{tells-it}
-
--- ---- how many
-gathered : (cs : List Constraint) → number (gather cs) ≡ length cs
-unfolding gather number
-gathered [] = refl
-gathered (c ∷ cs) = ap suc (gathered cs)
-
-nnf-number : (cs : Constraints) → number (toNnfAll cs) ≡ number cs
-unfolding toNnf number
-nnf-number end = refl
-nnf-number (c ⨾ cs) = ap suc (nnf-number cs)
-
-negation-number : (cs : Constraints) → number (negateAll cs) ≡ number cs
-unfolding toNnf number
-negation-number end = refl
-negation-number (c ⨾ cs) = ap suc (negation-number cs)
+use Rattle.normal.specs.Fitting.{number-nnf, number-negation}
 
 -- ---- record k
 module _ (b : List ℕ) (k : ℕ) (starts : List ℕ) (p : Ready numbers b (k + 1) starts) where
@@ -57,7 +42,7 @@ module _ (b : List ℕ) (k : ℕ) (starts : List ℕ) (p : Ready numbers b (k + 
 
   module _ (m : ℕ) (e : recordAt b k ≡ Record.And m) where
     and-number : number (gather (upTo numbers b m k)) ≡ m
-    and-number = gathered (upTo numbers b m k) ∙ few-taken numbers b m k starts (and-taken numbers b k starts p m e) .1
+    and-number = number-gather (upTo numbers b m k) ∙ few-taken numbers b m k starts (and-taken numbers b k starts p m e) .1
 
     pub and-small : m < 1024
     and-small = omega (arith, few-taken numbers b m k starts (and-taken numbers b k starts p m e) .0)
@@ -66,17 +51,17 @@ module _ (b : List ℕ) (k : ℕ) (starts : List ℕ) (p : Ready numbers b (k + 
     unfolding nnfAt nnfAll recordsOf toNnf
     nnf-and =
         ap (λ (c : Constraint). recordsOf (toNnf c)) (at-and numbers b k starts p m e)
-        ∙ ap (λ (n : ℕ). nnfAll b m k ++ Record.And n ∷ []) (nnf-number (gather (upTo numbers b m k)) ∙ and-number)
+        ∙ ap (λ (n : ℕ). nnfAll b m k ++ Record.And n ∷ []) (number-nnf (gather (upTo numbers b m k)) ∙ and-number)
 
     pub negation-and : negationAt b k ≡ negationAll b m k ++ Record.Or m ∷ []
     unfolding negationAt negationAll recordsOf toNnf
     negation-and =
         ap (λ (c : Constraint). recordsOf (negate c)) (at-and numbers b k starts p m e)
-        ∙ ap (λ (n : ℕ). negationAll b m k ++ Record.Or n ∷ []) (negation-number (gather (upTo numbers b m k)) ∙ and-number)
+        ∙ ap (λ (n : ℕ). negationAll b m k ++ Record.Or n ∷ []) (number-negation (gather (upTo numbers b m k)) ∙ and-number)
 
   module _ (m : ℕ) (e : recordAt b k ≡ Record.Or m) where
     or-number : number (gather (upTo numbers b m k)) ≡ m
-    or-number = gathered (upTo numbers b m k) ∙ few-taken numbers b m k starts (or-taken numbers b k starts p m e) .1
+    or-number = number-gather (upTo numbers b m k) ∙ few-taken numbers b m k starts (or-taken numbers b k starts p m e) .1
 
     pub or-small : m < 1024
     or-small = omega (arith, few-taken numbers b m k starts (or-taken numbers b k starts p m e) .0)
@@ -85,13 +70,13 @@ module _ (b : List ℕ) (k : ℕ) (starts : List ℕ) (p : Ready numbers b (k + 
     unfolding nnfAt nnfAll recordsOf toNnf
     nnf-or =
         ap (λ (c : Constraint). recordsOf (toNnf c)) (at-or numbers b k starts p m e)
-        ∙ ap (λ (n : ℕ). nnfAll b m k ++ Record.Or n ∷ []) (nnf-number (gather (upTo numbers b m k)) ∙ or-number)
+        ∙ ap (λ (n : ℕ). nnfAll b m k ++ Record.Or n ∷ []) (number-nnf (gather (upTo numbers b m k)) ∙ or-number)
 
     pub negation-or : negationAt b k ≡ negationAll b m k ++ Record.And m ∷ []
     unfolding negationAt negationAll recordsOf toNnf
     negation-or =
         ap (λ (c : Constraint). recordsOf (negate c)) (at-or numbers b k starts p m e)
-        ∙ ap (λ (n : ℕ). negationAll b m k ++ Record.And n ∷ []) (negation-number (gather (upTo numbers b m k)) ∙ or-number)
+        ∙ ap (λ (n : ℕ). negationAll b m k ++ Record.And n ∷ []) (number-negation (gather (upTo numbers b m k)) ∙ or-number)
 
   module _ (v : ℕ) (lo hi : Float) where
     pub forall-small : recordAt b k ≡ Record.ForAll v lo hi → v < 1024

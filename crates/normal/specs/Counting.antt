@@ -13,6 +13,20 @@ use Rattle.normal.specs.NormalForm.{toNnf, negate, toNnfAll, negateAll}
 use Rattle.normal.specs.Written.{recordsOf, recordsOfAll}
 use Rattle.normal.specs.Given.{keptOf, countKept}
 
+-- ---- of records
+one-at-most : (r : Record) → keptOf r ≤ 1
+one-at-most (Record.Atom rel i) = omega arith
+one-at-most Record.Not = omega arith
+one-at-most (Record.And m) = omega arith
+one-at-most (Record.Or m) = omega arith
+one-at-most (Record.ForAll v lo hi) = omega arith
+one-at-most (Record.Exists v lo hi) = omega arith
+
+pub kept-few : (b : List ℕ) (k : ℕ) → countKept b k ≤ k
+unfolding countKept
+kept-few b zero = omega arith
+kept-few b (suc k) = omega (arith, kept-few b k, one-at-most (recordAt b k))
+
 -- ---- of a constraint: as many as it has records that are no Not
 unfoldable mutual
   kept : Constraint → ℕ

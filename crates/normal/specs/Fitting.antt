@@ -13,7 +13,7 @@ use Rattle.constraint.specs.Constraint.{Constraint, Constraints, Atom, Not, And
 use Rattle.constraint.specs.Records.{recordAt, isRanged, takes, gather, none, finish, finished}
 use Rattle.constraint.specs.Fingerprint.{number}
 use Rattle.constraint.specs.Writing.{Writable}
-use Rattle.constraint.specs.RecordLaws.{Stands, writable}
+use Rattle.constraint.specs.RecordLaws.{number-gather, Stands, writable}
 use Rattle.normal.specs.NormalForm.{toNnf, negate, toNnfAll, negateAll}
 use Rattle.normal.specs.Written.{numbers, toldBy}
 use Rattle.normal.specs.NumberLaws.{tells-it}
@@ -34,12 +34,12 @@ module _ (n : ℕ) where
     FittingAll (c ⨾ cs) = Fitting c × FittingAll cs
 
 -- the normal form has as many in a list
-number-nnf : (cs : Constraints) → number (toNnfAll cs) ≡ number cs
+pub number-nnf : (cs : Constraints) → number (toNnfAll cs) ≡ number cs
 unfolding number toNnf
 number-nnf end = refl
 number-nnf (c ⨾ cs) = ap suc (number-nnf cs)
 
-number-negation : (cs : Constraints) → number (negateAll cs) ≡ number cs
+pub number-negation : (cs : Constraints) → number (negateAll cs) ≡ number cs
 unfolding number toNnf
 number-negation end = refl
 number-negation (c ⨾ cs) = ap suc (number-negation cs)
@@ -152,17 +152,17 @@ module _ (n : ℕ) (few : n ≤ 1024) where
   each-first [] e h = absurd (omega arith)
   each-first (c ∷ cs) e h = h .0
 
-  each-gathered : (cs : List Constraint) → Each cs → (number (gather cs) ≡ length cs) × FittingAll n (gather cs)
-  unfolding gather number Fitting
-  each-gathered [] h = (refl, tt)
-  each-gathered (c ∷ cs) h = let w = each-gathered cs (h .1) in (ap suc (w .0), (h .0, w .1))
+  each-gathered : (cs : List Constraint) → Each cs → FittingAll n (gather cs)
+  unfolding gather Fitting
+  each-gathered [] h = tt
+  each-gathered (c ∷ cs) h = (h .0, each-gathered cs (h .1))
 
   finish-fitting : (r : Record) (cs : List Constraint) → length cs ≡ takes r → Each cs → Writable n r → isRanged r ≡ true → Fitting n (finish numbers r cs)
   unfolding finish Fitting
   finish-fitting (Record.Atom rel i) cs e h w g = omega (arith, tells-it i (omega arith))
   finish-fitting Record.Not cs e h w g = each-first cs e h
-  finish-fitting (Record.And m) cs e h w g = let x = each-gathered cs h in (omega (arith, x .0), x .1)
-  finish-fitting (Record.Or m) cs e h w g = let x = each-gathered cs h in (omega (arith, x .0), x .1)
+  finish-fitting (Record.And m) cs e h w g = (omega (arith, number-gather cs), each-gathered cs h)
+  finish-fitting (Record.Or m) cs e h w g = (omega (arith, number-gather cs), each-gathered cs h)
   finish-fitting (Record.ForAll v lo hi) cs e h w g = (w .0, w .1, w .2, g, each-first cs e h)
   finish-fitting (Record.Exists v lo hi) cs e h w g = (w .0, w .1, w .2, g, each-first cs e h)
 

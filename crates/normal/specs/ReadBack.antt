@@ -13,7 +13,7 @@ use Rattle.tree.specs.Refusal.{first}
 use Rattle.tree.specs.RefusalLaws.{both, none-both, none-unless, none-of-each}
 use Rattle.constraint.specs.declared.Record.{Record}
 use Rattle.constraint.specs.Constraint.{Constraint, levels, quantifiers}
-use Rattle.constraint.specs.Records.{recordAt, finished, constraintAt, recordRefusal, recordsRefusal}
+use Rattle.constraint.specs.Records.{finished, constraintAt, recordRefusal, recordsRefusal}
 use Rattle.constraint.specs.Starts.{Ready}
 use Rattle.constraint.specs.Comparison.{recordsBytes}
 use Rattle.constraint.specs.Writing.{length-records, record-byte}
@@ -24,26 +24,13 @@ use Rattle.file.specs.FileLaws.{passed-given, counted, given-ready, left-is}
 use Rattle.normal.specs.NormalForm.{toNnf}
 use Rattle.normal.specs.Written.{numbers}
 use Rattle.normal.specs.Renaming.{renamed, nnf-renamed, height-renamed, constraint-renamed, refusal-same, renumbered}
-use Rattle.normal.specs.Given.{keptOf, countKept, _leaving_, nnfRecords, nnfRefusal, written, toNnfGiven}
-use Rattle.normal.specs.Counting.{nnf-count}
+use Rattle.normal.specs.Given.{_leaving_, nnfRecords, nnfRefusal, written, toNnfGiven}
+use Rattle.normal.specs.Counting.{kept-few, nnf-count}
 use Rattle.normal.specs.declared.Nnf.{Nnf}
 use Rattle.normal.specs.Fitting.{Fitting, nnf-fitting, nnf-levels, nnf-quantifiers, each-first, all-fitting}
 use Rattle.normal.specs.Passing.{Leads, leads, walk}
 
 -- ---- the records of the normal form of what accepted records leave
-few-kept : (b : List ℕ) (n : ℕ) → countKept b n ≤ n
-unfolding countKept
-few-kept b zero = omega arith
-few-kept b (suc n) = omega (arith, few-kept b n, at-most-one (recordAt b n))
-  where
-    at-most-one : (r : Record) → keptOf r ≤ 1
-    at-most-one (Record.Atom rel i) = omega arith
-    at-most-one Record.Not = omega arith
-    at-most-one (Record.And m) = omega arith
-    at-most-one (Record.Or m) = omega arith
-    at-most-one (Record.ForAll v lo hi) = omega arith
-    at-most-one (Record.Exists v lo hi) = omega arith
-
 module _ (nodes b : List ℕ) (e : givenRefusal nodes b ≡ 0) where
   abbrev count : ℕ
   count = length nodes / 16
@@ -127,7 +114,7 @@ module _ (nodes b : List ℕ) (e : givenRefusal nodes b ≡ 0) where
 
   few-records : length rs ≤ 256
   unfolding nnfRecords left
-  few-records = omega (arith, nnf-count numbers b n begins over-numbers one-over-numbers, few-kept b n, limits .1)
+  few-records = omega (arith, nnf-count numbers b n begins over-numbers one-over-numbers, kept-few b n, limits .1)
 
   nodes-whole : eqb (length nodes % 16) 0 ≡ true
   unfolding isCounted

@@ -9,7 +9,8 @@ use lib.ListN.{length}
 use denote.Ref.{now}
 use Rattle.file.specs.FileLaws.{some-given, given-ready}
 use Rattle.normal.specs.Renaming.{renumbered}
-use Rattle.normal.proofs.Calls.{kept-few, records-refused, too-short, room, wrote}
+use Rattle.normal.specs.Counting.{kept-few}
+use Rattle.normal.proofs.Calls.{records-refused, too-short, room, wrote}
 
 returns : tie.Need-returns
 returns c = records-refused _ _ _ _ (c .before .test-given .ensures .0) (c .if1 .taken)
