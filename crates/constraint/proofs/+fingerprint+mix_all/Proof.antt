@@ -130,10 +130,14 @@ fingerprint-mix-range-requires-2 t c κs =
 fingerprint-returns : (t : ℕ) → fingerprint-lts.Need-returns (fingerprint-calls t) (fingerprint-at t) reads.Post
 unfolding fingerprint
 fingerprint-returns t c =
-    let at5 = c .before .before .before .before .before in
+    let p₁ = c .before in
+    let p₂ = p₁ .before in
+    let p₃ = p₂ .before in
+    let p₄ = p₃ .before .before in
+    let at5 = p₄ in
     let at10 = at5 .before .before .before .before .before in
     c .mix2 .ensures
-    ∙ ap₂ mix (c .before .before .mix .ensures ∙ ap (mix 5) (c .before .before .before .kind-of .ensures)) (c .before .fingerprint .ensures)
+    ∙ ap₂ mix (p₂ .mix .ensures ∙ ap (mix 5) (p₃ .kind-of .ensures)) (p₁ .fingerprint .ensures)
     ∙ sym (ap fingerprint (at-atom _ _ _ _ (at10 .pre .1) _ _ (sym (at5 .before .before .record-in .ensures) ∙ at5 .rel .given .1)))
 
 fingerprint-returns-2 : (t : ℕ) → fingerprint-lts.Need-returns-2 (fingerprint-calls t) (fingerprint-at t) reads.Post

@@ -60,8 +60,11 @@ num-vars-record-in-requires t c κs = record-there _ _ _ _ (c .before .before .p
 
 num-vars-num-vars-requires : (t : ℕ) → num-vars-lts.Need-num-vars-requires (num-vars-calls t) (num-vars-at t) num-vars.Post
 num-vars-num-vars-requires t c κs =
-    let at6 = c .before .before .before .before .before .before in
-    atom-node _ _ _ _ (at6 .pre .1) _ _ (sym (c .before .before .before .record-in .ensures) ∙ c .before .i .given .1)
+    let p₁ = c .before in
+    let p₂ = p₁ .before .before in
+    let p₃ = p₂ .before .before .before in
+    let at6 = p₃ in
+    atom-node _ _ _ _ (at6 .pre .1) _ _ (sym (p₂ .record-in .ensures) ∙ p₁ .i .given .1)
 
 num-vars-sub-num-vars : (t : ℕ) → num-vars-lts.Need-sub-num-vars (num-vars-calls t) (num-vars-at t) num-vars.Post
 num-vars-sub-num-vars t c =
@@ -128,8 +131,11 @@ num-vars-returns t c =
 num-vars-returns-2 : (t : ℕ) → num-vars-lts.Need-returns-2 (num-vars-calls t) (num-vars-at t) num-vars.Post
 unfolding numVars
 num-vars-returns-2 t c =
-    let at6 = c .before .before .before .before .before .before in
-    c .num-vars2 .ensures ∙ sym (ap numVars (at-not _ _ _ _ (at6 .pre .1) (sym (c .before .before .before .record-in .ensures) ∙ c .before .enum-told .given .1)))
+    let p₁ = c .before in
+    let p₂ = p₁ .before .before in
+    let p₃ = p₂ .before .before .before in
+    let at6 = p₃ in
+    c .num-vars2 .ensures ∙ sym (ap numVars (at-not _ _ _ _ (at6 .pre .1) (sym (p₂ .record-in .ensures) ∙ p₁ .enum-told .given .1)))
 
 num-vars-returns-3 : (t : ℕ) → num-vars-lts.Need-returns-3 (num-vars-calls t) (num-vars-at t) num-vars.Post
 unfolding numVars

@@ -10,8 +10,12 @@ use Rattle.constraint.proofs.is_record.Tie as tie
 returns : tie.Need-returns
 unfolding isRecord if_then_else_
 returns c =
-    let at4 = c .before .before .before .before in
-    simp (sym (at4 .read-u32 .ensures), lt-ltb _ _ (c .if1 .taken), c .before .before .before .read-u322 .ensures, c .before .before .read-u64 .ensures, c .before .read-u642 .ensures)
+    let p₁ = c .before in
+    let p₂ = p₁ .before in
+    let p₃ = p₂ .before in
+    let p₄ = p₃ .before in
+    let at4 = p₄ in
+    simp (sym (at4 .read-u32 .ensures), lt-ltb _ _ (c .if1 .taken), p₃ .read-u322 .ensures, p₂ .read-u64 .ensures, p₁ .read-u642 .ensures)
 
 returns-2 : tie.Need-returns-2
 unfolding isRecord if_then_else_
@@ -22,14 +26,20 @@ returns-2 c =
 returns-3 : tie.Need-returns-3
 unfolding isRecord if_then_else_
 returns-3 c =
-    let at5 = c .before .before .before .before .before in
-    simp (sym (at5 .read-u32 .ensures) ∙ c .match .keys2, c .before .before .before .read-u64 .ensures, c .before .before .read-u642 .ensures)
+    let p₁ = c .before .before in
+    let p₂ = p₁ .before in
+    let p₃ = p₂ .before .before in
+    let at5 = p₃ in
+    simp (sym (at5 .read-u32 .ensures) ∙ c .match .keys2, p₂ .read-u64 .ensures, p₁ .read-u642 .ensures)
 
 returns-4 : tie.Need-returns-4
 unfolding isRecord if_then_else_
 returns-4 c =
-    let at5 = c .before .before .before .before .before in
-    simp (sym (at5 .read-u32 .ensures) ∙ c .match .keys3, c .before .before .before .read-u64 .ensures, c .before .before .read-u642 .ensures)
+    let p₁ = c .before .before in
+    let p₂ = p₁ .before in
+    let p₃ = p₂ .before .before in
+    let at5 = p₃ in
+    simp (sym (at5 .read-u32 .ensures) ∙ c .match .keys3, p₂ .read-u64 .ensures, p₁ .read-u642 .ensures)
 
 returns-5 : tie.Need-returns-5
 unfolding isRecord if_then_else_

@@ -33,9 +33,13 @@ returns-5 c =
 returns-6 : tie.Need-returns-6
 unfolding recordAt if_then_else_
 returns-6 c =
-    let at4 = c .before .before .before .before in
-    let r = c .before .before .match .rest in
-    simp (sym (at4 .before .read-u32 .ensures), le-ltb _ _ (c .before .before .before .if1 .left), ne-eqb _ _ (r .1), ne-eqb _ _ (r .0 .1), ne-eqb _ _ (r .0 .0 .1), ne-eqb _ _ (r .0 .0 .0 .1), at4 .read-u322 .ensures, c .before .read-f643 .ensures, c .read-f644 .ensures)
+    let p₁ = c .before in
+    let p₂ = p₁ .before in
+    let p₃ = p₂ .before in
+    let p₄ = p₃ .before in
+    let at4 = p₄ in
+    let r = p₂ .match .rest in
+    simp (sym (at4 .before .read-u32 .ensures), le-ltb _ _ (p₃ .if1 .left), ne-eqb _ _ (r .1), ne-eqb _ _ (r .0 .1), ne-eqb _ _ (r .0 .0 .1), ne-eqb _ _ (r .0 .0 .0 .1), at4 .read-u322 .ensures, p₁ .read-f643 .ensures, c .read-f644 .ensures)
 
 pub record-in-spec : {M : Type 1} → statement M
 record-in-spec =

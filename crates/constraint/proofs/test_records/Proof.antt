@@ -62,15 +62,23 @@ returns c =
 
 returns-2 : tie.Need-returns-2 Inv-loop μ-loop
 returns-2 c =
-    let at4 = c .before .before .before .before in
+    let p₁ = c .before in
+    let p₂ = p₁ .before in
+    let p₃ = p₂ .before in
+    let p₄ = p₃ .before in
+    let at4 = p₄ in
     let at6 = at4 .before .before in
-    stop _ _ _ _ _ _ _ _ _ _ (at6 .loop .inv .6) (at6 .loop .inv .7) 4 (at4 .before .loop-test .taken) (λ nodes. five-few nodes _ _ _ _ _ _ (at6 .loop .inv .7 nodes) (sym (at4 .is-record .ensures) ∙ not-false _ (c .before .before .before .if1 .left)) _ (c .before .before .record-in .ensures) _ (c .before .taken-by .ensures) (c .if2 .taken))
+    stop _ _ _ _ _ _ _ _ _ _ (at6 .loop .inv .6) (at6 .loop .inv .7) 4 (at4 .before .loop-test .taken) (λ nodes. five-few nodes _ _ _ _ _ _ (at6 .loop .inv .7 nodes) (sym (at4 .is-record .ensures) ∙ not-false _ (p₃ .if1 .left)) _ (p₂ .record-in .ensures) _ (p₁ .taken-by .ensures) (c .if2 .taken))
 
 returns-3 : tie.Need-returns-3 Inv-loop μ-loop
 returns-3 c =
-    let at4 = c .before .before .before .before in
+    let p₁ = c .before in
+    let p₂ = p₁ .before in
+    let p₃ = p₂ .before in
+    let p₄ = p₃ .before in
+    let at4 = p₄ in
     let at8 = at4 .before .before .before .before in
-    stop _ _ _ _ _ _ _ _ _ _ (at8 .loop .inv .6) (at8 .loop .inv .7) 5 (at4 .before .before .before .loop-test .taken) (λ nodes. six nodes _ _ _ _ _ _ (at8 .loop .inv .7 nodes) (sym (at4 .before .before .is-record .ensures) ∙ not-false _ (at4 .before .if1 .left)) _ (at4 .record-in .ensures) _ (c .before .before .before .taken-by .ensures) (c .before .before .if2 .left) (sym (c .before .is-ranged .ensures) ∙ not-true _ (c .if3 .taken)))
+    stop _ _ _ _ _ _ _ _ _ _ (at8 .loop .inv .6) (at8 .loop .inv .7) 5 (at4 .before .before .before .loop-test .taken) (λ nodes. six nodes _ _ _ _ _ _ (at8 .loop .inv .7 nodes) (sym (at4 .before .before .is-record .ensures) ∙ not-false _ (at4 .before .if1 .left)) _ (at4 .record-in .ensures) _ (p₃ .taken-by .ensures) (p₂ .if2 .left) (sym (p₁ .is-ranged .ensures) ∙ not-true _ (c .if3 .taken)))
 
 returns-4 : tie.Need-returns-4 Inv-loop μ-loop
 returns-4 c =

@@ -25,9 +25,13 @@ constraints-of-requires c κs = is-laid _ (sym (c .before .before .before .test-
 
 fingerprint-requires : tie.Need-fingerprint-requires
 fingerprint-requires c κs =
-    let at4 = c .before .before .before .before in
+    let p₁ = c .before in
+    let p₂ = p₁ .before in
+    let p₃ = p₂ .before in
+    let p₄ = p₃ .before in
+    let at4 = p₄ in
     let at5 = at4 .before in
-    last-ready _ (sym (at5 .test-file .ensures .0) ∙ at4 .if1 .left) _ _ _ (c .before .before .nodes-of .ensures) (c .before .constraints-of .ensures) (c .before .before .before .constraint-count .ensures) _ _ refl (at5 .test-file .ensures .1)
+    last-ready _ (sym (at5 .test-file .ensures .0) ∙ at4 .if1 .left) _ _ _ (p₂ .nodes-of .ensures) (p₁ .constraints-of .ensures) (p₃ .constraint-count .ensures) _ _ refl (at5 .test-file .ensures .1)
 
 returns-2 : tie.Need-returns-2
 returns-2 c =

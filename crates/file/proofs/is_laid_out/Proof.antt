@@ -7,8 +7,12 @@ use Rattle.file.proofs.is_laid_out.Tie as tie
 returns : tie.Need-returns
 unfolding isLaidOut
 returns c =
-    let at4 = c .before .before .before .before in
-    simp (at4 .before .read-u32 .ensures, at4 .read-u322 .ensures, c .before .before .before .read-u323 .ensures, c .before .before .read-u324 .ensures, c .before .read-u325 .ensures, c .read-u326 .ensures)
+    let p₁ = c .before in
+    let p₂ = p₁ .before in
+    let p₃ = p₂ .before in
+    let p₄ = p₃ .before in
+    let at4 = p₄ in
+    simp (at4 .before .read-u32 .ensures, at4 .read-u322 .ensures, p₃ .read-u323 .ensures, p₂ .read-u324 .ensures, p₁ .read-u325 .ensures, c .read-u326 .ensures)
 
 pub is-laid-out-spec : {M : Type 1} → statement M
 is-laid-out-spec =

@@ -10,8 +10,12 @@ use Rattle.file.proofs.test_bodies.Tie as tie
 
 returns : tie.Need-returns
 returns c =
-    let at5 = c .before .before .before .before .before in
-    body-nodes _ _ (at5 .pre .0) _ _ (c .before .before .nodes-of .ensures) (c .before .before .before .node-count .ensures) _ (c .before .test-list .ensures) (c .if1 .taken)
+    let p₁ = c .before in
+    let p₂ = p₁ .before in
+    let p₃ = p₂ .before in
+    let p₄ = p₃ .before .before in
+    let at5 = p₄ in
+    body-nodes _ _ (at5 .pre .0) _ _ (p₂ .nodes-of .ensures) (p₃ .node-count .ensures) _ (p₁ .test-list .ensures) (c .if1 .taken)
 
 test-records-requires : tie.Need-test-records-requires
 test-records-requires c κs =
@@ -35,10 +39,14 @@ test-bounds-requires c κs =
 
 returns-3 : tie.Need-returns-3
 returns-3 c =
-    let at4 = c .before .before .before .before in
+    let p₁ = c .before in
+    let p₂ = p₁ .before in
+    let p₃ = p₂ .before in
+    let p₄ = p₃ .before in
+    let at4 = p₄ in
     let at8 = at4 .before .before .before .before in
     let at13 = at8 .before .before .before .before .before in
-    body-bounds _ _ (at13 .pre .0) _ _ (at8 .before .before .nodes-of .ensures) (at8 .before .before .before .node-count .ensures) _ (at8 .before .test-list .ensures) (at8 .if1 .left) _ _ (at4 .before .before .constraints-of .ensures) (at4 .before .before .before .constraint-count .ensures) _ _ (at4 .test-records .ensures .0) (at4 .test-records .ensures .1) (c .before .before .before .if2 .left) _ _ _ (c .before .before .bounds-of .ensures) (c .before .bound-count .ensures) (c .test-bounds .ensures)
+    body-bounds _ _ (at13 .pre .0) _ _ (at8 .before .before .nodes-of .ensures) (at8 .before .before .before .node-count .ensures) _ (at8 .before .test-list .ensures) (at8 .if1 .left) _ _ (at4 .before .before .constraints-of .ensures) (at4 .before .before .before .constraint-count .ensures) _ _ (at4 .test-records .ensures .0) (at4 .test-records .ensures .1) (p₃ .if2 .left) _ _ _ (p₂ .bounds-of .ensures) (p₁ .bound-count .ensures) (c .test-bounds .ensures)
 
 pub test-bodies-spec : {M : Type 1} → statement M
 test-bodies-spec =

@@ -26,8 +26,12 @@ loop-holds c = (omega arith, refl)
 returns : tie.Need-returns Inv-loop μ-loop
 unfolding boundRefusal
 returns c =
-    let at4 = c .before .before .before .before in
-    sym (first-here _ 5 _ (at4 .loop .inv .1) (simp (sym (c .before .is-sound .ensures ∙ ap (λ (i : Interval). sound binary64 (i .lo) (i .hi)) (c .before .before .bound-in .ensures)) ∙ not-true _ (c .if1 .taken))) _ (c .before .before .before .loop-test .taken))
+    let p₁ = c .before in
+    let p₂ = p₁ .before in
+    let p₃ = p₂ .before in
+    let p₄ = p₃ .before in
+    let at4 = p₄ in
+    sym (first-here _ 5 _ (at4 .loop .inv .1) (simp (sym (p₁ .is-sound .ensures ∙ ap (λ (i : Interval). sound binary64 (i .lo) (i .hi)) (p₂ .bound-in .ensures)) ∙ not-true _ (c .if1 .taken))) _ (p₃ .loop-test .taken))
 
 loop-again : tie.Need-loop-again Inv-loop μ-loop
 unfolding boundRefusal

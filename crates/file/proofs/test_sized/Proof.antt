@@ -24,8 +24,11 @@ test-records-requires c κs =
 returns-2 : tie.Need-returns-2
 unfolding isCounted
 returns-2 c =
-    let w = given-records _ _ _ (c .before .before .before .before .before .if1 .taken) _ (c .before .before .before .before .test-sizes .ensures .0) (c .before .before .if2 .left) _ _ (c .test-records .ensures .0) (c .test-records .ensures .1) in
-    (w .0, (w .1, λ z. c .before .before .before .before .test-sizes .ensures .1 (c .before .before .if2 .left)))
+    let p₁ = c .before .before in
+    let p₂ = p₁ .before .before in
+    let p₃ = p₂ .before in
+    let w = given-records _ _ _ (p₃ .if1 .taken) _ (p₂ .test-sizes .ensures .0) (p₁ .if2 .left) _ _ (c .test-records .ensures .0) (c .test-records .ensures .1) in
+    (w .0, (w .1, λ z. p₂ .test-sizes .ensures .1 (p₁ .if2 .left)))
 
 returns-3 : tie.Need-returns-3
 unfolding isCounted

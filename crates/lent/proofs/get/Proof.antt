@@ -23,9 +23,11 @@ new-requires c κs = search needs
 
 returns : tie.Need-returns
 returns c =
-    let g = c .before .before .before .before .good .0 .1 .1 in
-    let s = c .before .before .before .before .args .t1 in
-    c .new .ensures ∙ get-there s (length-unmapped Float (s .lo) 16 (g .0 .1 .0 .1)) (length-unmapped Float (s .hi) 16 (g .1 .0 .1 .0 .1)) _ _ (c .before .before .before .if1 .taken)
+    let p₁ = c .before .before .before in
+    let p₂ = p₁ .before in
+    let g = p₂ .good .0 .1 .1 in
+    let s = p₂ .args .t1 in
+    c .new .ensures ∙ get-there s (length-unmapped Float (s .lo) 16 (g .0 .1 .0 .1)) (length-unmapped Float (s .hi) 16 (g .1 .0 .1 .0 .1)) _ _ (p₁ .if1 .taken)
 
 returns-2 : tie.Need-returns-2
 returns-2 c =

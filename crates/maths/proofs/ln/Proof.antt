@@ -72,7 +72,12 @@ unfolding lnOf if_then_else_
 returns-4 c = simp (real (c .before .before .before), zero-is, c .before .before .if2 .left, c .before .if3 .left, at-inf c) (is-inf _ (at-inf c))
 
 split-requires : tie.Need-split-requires
-split-requires c κs = above (c .before .before .before .before .args .x) (real (c .before .before .before)) (c .before .before .if2 .left) (c .before .if3 .left) (under-inf c)
+split-requires c κs =
+    let p₁ = c .before in
+    let p₂ = p₁ .before in
+    let p₃ = p₂ .before in
+    let s = p₃ .before in
+    above (s .args .x) (real p₃) (p₂ .if2 .left) (p₁ .if3 .left) (under-inf c)
 
 float-from-bits-if5 : tie.Need-float-from-bits-if5
 unfolding nanBits

@@ -113,10 +113,16 @@ backward-both-same-length-2 : (t : ℕ) → backward-both-lts.Need-same-length-2
 backward-both-same-length-2 t c = search needs
 
 backward-both-returns-2 : (t : ℕ) → backward-both-lts.Need-returns-2 (backward-both-calls t) (backward-both-at t) backward-both.Post
-backward-both-returns-2 t c = asked-both _ _ _ _ (c .before .before .before .before .before .before .before .before .before .before .before .before .before .before .before .before .demand2 .given .1) (c .before .before .before .before .before .before .before .before .before .before .before .before .backward-propagate .ensures) (c .before .before .before .before .before .backward-propagate2 .ensures) (c .worse .ensures)
+backward-both-returns-2 t c =
+    let p₁ = c .before .before .before .before .before in
+    let p₂ = p₁ .before .before .before .before .before .before .before in
+    let p₃ = p₂ .before .before .before .before in
+    asked-both _ _ _ _ (p₃ .demand2 .given .1) (p₂ .backward-propagate .ensures) (p₁ .backward-propagate2 .ensures) (c .worse .ensures)
 
 backward-eml-eval-interval-requires : (t : ℕ) → backward-eml-lts.Need-eval-interval-requires (backward-eml-calls t) (backward-eml-at t) backward-eml.Post
-backward-eml-eval-interval-requires t c κs = (c .before .before .before .before .before .pre .1 .0, c .before .before .before .before .before .pre .1 .2)
+backward-eml-eval-interval-requires t c κs =
+    let s = c .before .before .before .before .before in
+    (s .pre .1 .0, s .pre .1 .2)
 
 backward-eml-enum-known-l : (t : ℕ) → backward-eml-lts.Need-enum-known-l (backward-eml-calls t) (backward-eml-at t) backward-eml.Post
 backward-eml-enum-known-l t c = search needs
@@ -134,7 +140,9 @@ backward-eml-returns : (t : ℕ) → backward-eml-lts.Need-returns (backward-eml
 backward-eml-returns t c = left-unknown _ _ _ _ _ (sym (c .before .before .eval-interval .ensures) ∙ c .enum-told .given .1)
 
 backward-eml-eval-interval-requires-2 : (t : ℕ) → backward-eml-lts.Need-eval-interval-requires-2 (backward-eml-calls t) (backward-eml-at t) backward-eml.Post
-backward-eml-eval-interval-requires-2 t c κs = (c .before .before .before .before .before .before .before .before .before .before .before .pre .1 .1, c .before .before .before .before .before .before .before .before .before .before .before .pre .1 .2)
+backward-eml-eval-interval-requires-2 t c κs =
+    let s = c .before .before .before .before .before .before .before .before .before .before .before in
+    (s .pre .1 .1, s .pre .1 .2)
 
 backward-eml-enum-known-r : (t : ℕ) → backward-eml-lts.Need-enum-known-r (backward-eml-calls t) (backward-eml-at t) backward-eml.Post
 backward-eml-enum-known-r t c = search needs
@@ -149,7 +157,11 @@ backward-eml-same-length-4 : (t : ℕ) → backward-eml-lts.Need-same-length-4 (
 backward-eml-same-length-4 t c = search needs
 
 backward-eml-returns-2 : (t : ℕ) → backward-eml-lts.Need-returns-2 (backward-eml-calls t) (backward-eml-at t) backward-eml.Post
-backward-eml-returns-2 t c = right-unknown _ _ _ _ _ (sym (c .before .before .before .before .before .before .before .before .eval-interval .ensures) ∙ c .before .before .before .before .before .before .l .given .1) (sym (c .before .before .eval-interval2 .ensures) ∙ c .enum-told2 .given .1)
+backward-eml-returns-2 t c =
+    let p₁ = c .before .before in
+    let p₂ = p₁ .before .before .before .before in
+    let p₃ = p₂ .before .before in
+    right-unknown _ _ _ _ _ (sym (p₃ .eval-interval .ensures) ∙ p₂ .l .given .1) (sym (p₁ .eval-interval2 .ensures) ∙ c .enum-told2 .given .1)
 
 backward-eml-ask-requires : (t : ℕ) → backward-eml-lts.Need-ask-requires (backward-eml-calls t) (backward-eml-at t) backward-eml.Post
 backward-eml-ask-requires t c κs = search needs
@@ -164,7 +176,14 @@ backward-eml-same-length-6 : (t : ℕ) → backward-eml-lts.Need-same-length-6 (
 backward-eml-same-length-6 t c = search needs
 
 backward-eml-returns-3 : (t : ℕ) → backward-eml-lts.Need-returns-3 (backward-eml-calls t) (backward-eml-at t) backward-eml.Post
-backward-eml-returns-3 t c = both-known _ _ _ _ _ (sym (c .before .before .before .before .before .before .before .before .before .before .before .before .before .before .before .before .before .eval-interval .ensures) ∙ c .before .before .before .before .before .before .before .before .before .before .before .before .before .before .before .l .given .1) (sym (c .before .before .before .before .before .before .before .before .before .before .before .eval-interval2 .ensures) ∙ c .before .before .before .before .before .before .before .before .before .r .given .1) (c .before .before .before .before .before .before .before .ask .ensures) (c .before .before .before .before .backward-both .ensures)
+backward-eml-returns-3 t c =
+    let p₁ = c .before .before .before .before in
+    let p₂ = p₁ .before .before .before in
+    let p₃ = p₂ .before .before in
+    let p₄ = p₃ .before .before in
+    let p₅ = p₄ .before .before .before .before in
+    let p₆ = p₅ .before .before in
+    both-known _ _ _ _ _ (sym (p₆ .eval-interval .ensures) ∙ p₅ .l .given .1) (sym (p₄ .eval-interval2 .ensures) ∙ p₃ .r .given .1) (p₂ .ask .ensures) (p₁ .backward-both .ensures)
 
 backward-propagate-is-empty-requires : (t : ℕ) → backward-propagate-lts.Need-is-empty-requires (backward-propagate-calls t) (backward-propagate-at t) backward-propagate.Post
 backward-propagate-is-empty-requires t c κs = search needs
@@ -205,10 +224,20 @@ backward-propagate-backward-eml-requires t c κs =
     (omega (arith, s .pre .0, x .0, y .0), (x .1, y .1, s .pre .1 .1))
 
 backward-propagate-returns-2 : (t : ℕ) → backward-propagate-lts.Need-returns-2 (backward-propagate-calls t) (backward-propagate-at t) backward-propagate.Post
-backward-propagate-returns-2 t c = back-one _ _ _ (sym (c .before .before .before .before .before .is-empty .ensures) ∙ c .before .before .before .before .if1 .left) (tree-one _ _ (sym (c .before .before .before .node-in .ensures) ∙ c .before .enum-told .given .1)) (rw one-is at (c .fixed-at .ensures))
+backward-propagate-returns-2 t c =
+    let p₁ = c .before in
+    let p₂ = p₁ .before .before in
+    let p₃ = p₂ .before in
+    let p₄ = p₃ .before in
+    back-one _ _ _ (sym (p₄ .is-empty .ensures) ∙ p₃ .if1 .left) (tree-one _ _ (sym (p₂ .node-in .ensures) ∙ p₁ .enum-told .given .1)) (rw one-is at (c .fixed-at .ensures))
 
 backward-propagate-returns-3 : (t : ℕ) → backward-propagate-lts.Need-returns-3 (backward-propagate-calls t) (backward-propagate-at t) backward-propagate.Post
-backward-propagate-returns-3 t c = back-const _ _ _ (sym (c .before .before .before .before .before .before .is-empty .ensures) ∙ c .before .before .before .before .before .if1 .left) (tree-const _ _ _ (sym (c .before .before .before .before .node-in .ensures) ∙ c .before .before .v .given .1)) (c .fixed-at2 .ensures)
+backward-propagate-returns-3 t c =
+    let p₁ = c .before .before in
+    let p₂ = p₁ .before .before in
+    let p₃ = p₂ .before in
+    let p₄ = p₃ .before in
+    back-const _ _ _ (sym (p₄ .is-empty .ensures) ∙ p₃ .if1 .left) (tree-const _ _ _ (sym (p₂ .node-in .ensures) ∙ p₁ .v .given .1)) (c .fixed-at2 .ensures)
 
 backward-propagate-same-length : (t : ℕ) → backward-propagate-lts.Need-same-length (backward-propagate-calls t) (backward-propagate-at t) backward-propagate.Post
 backward-propagate-same-length t c = search needs
@@ -217,7 +246,13 @@ backward-propagate-same-length-2 : (t : ℕ) → backward-propagate-lts.Need-sam
 backward-propagate-same-length-2 t c = search needs
 
 backward-propagate-returns-4 : (t : ℕ) → backward-propagate-lts.Need-returns-4 (backward-propagate-calls t) (backward-propagate-at t) backward-propagate.Post
-backward-propagate-returns-4 t c = back-var _ _ _ (sym (c .before .before .before .before .before .before .before .before .before .before .before .before .is-empty .ensures) ∙ c .before .before .before .before .before .before .before .before .before .before .before .if1 .left) (tree-var _ _ _ (sym (c .before .before .before .before .before .before .before .before .before .before .node-in .ensures) ∙ c .before .before .before .before .before .before .before .before .i .given .1)) (c .before .before .before .before .narrow-var .ensures)
+backward-propagate-returns-4 t c =
+    let p₁ = c .before .before .before .before in
+    let p₂ = p₁ .before .before .before .before in
+    let p₃ = p₂ .before .before in
+    let p₄ = p₃ .before in
+    let p₅ = p₄ .before in
+    back-var _ _ _ (sym (p₅ .is-empty .ensures) ∙ p₄ .if1 .left) (tree-var _ _ _ (sym (p₃ .node-in .ensures) ∙ p₂ .i .given .1)) (p₁ .narrow-var .ensures)
 
 backward-propagate-same-length-3 : (t : ℕ) → backward-propagate-lts.Need-same-length-3 (backward-propagate-calls t) (backward-propagate-at t) backward-propagate.Post
 backward-propagate-same-length-3 t c = search needs
@@ -226,7 +261,14 @@ backward-propagate-same-length-4 : (t : ℕ) → backward-propagate-lts.Need-sam
 backward-propagate-same-length-4 t c = search needs
 
 backward-propagate-returns-5 : (t : ℕ) → backward-propagate-lts.Need-returns-5 (backward-propagate-calls t) (backward-propagate-at t) backward-propagate.Post
-backward-propagate-returns-5 t c = back-eml _ _ _ (sym (c .before .before .before .before .before .before .before .before .before .before .before .before .is-empty .ensures) ∙ c .before .before .before .before .before .before .before .before .before .before .before .if1 .left) (tree-is _ _ (c .before .before .before .before .before .before .before .before .before .before .before .before .before .before .before .before .pre .1 .0) _ _ (sym (c .before .before .before .before .before .before .before .before .before .before .node-in .ensures) ∙ c .before .before .before .before .before .before .before .before .a .given .1)) (c .before .before .before .before .backward-eml .ensures)
+backward-propagate-returns-5 t c =
+    let p₁ = c .before .before .before .before in
+    let p₂ = p₁ .before .before .before .before in
+    let p₃ = p₂ .before .before in
+    let p₄ = p₃ .before in
+    let p₅ = p₄ .before in
+    let s = p₅ .before .before .before .before in
+    back-eml _ _ _ (sym (p₅ .is-empty .ensures) ∙ p₄ .if1 .left) (tree-is _ _ (s .pre .1 .0) _ _ (sym (p₃ .node-in .ensures) ∙ p₂ .a .given .1)) (p₁ .backward-eml .ensures)
 
 pub +backward-both+backward-eml+backward-propagate-spec : {M : Type 1} → statement M
 +backward-both+backward-eml+backward-propagate-spec =

@@ -76,14 +76,23 @@ eval-eml-enum-told-2 t c = search needs
 
 eval-eml-returns-2 : (t : ℕ) → eval-eml-lts.Need-returns-2 (eval-eml-calls t) (eval-eml-at t) eval-eml.Post
 unfolding forward
-eval-eml-returns-2 t c = simp (sym (c .before .before .before .before .before .before .eval-interval .ensures) ∙ c .before .before .before .before .l .given .1, sym (c .before .before .eval-interval2 .ensures) ∙ c .enum-told2 .given .1)
+eval-eml-returns-2 t c =
+    let p₁ = c .before .before in
+    let p₂ = p₁ .before .before in
+    let p₃ = p₂ .before .before in
+    simp (sym (p₃ .eval-interval .ensures) ∙ p₂ .l .given .1, sym (p₁ .eval-interval2 .ensures) ∙ c .enum-told2 .given .1)
 
 eval-eml-eml-interval-requires : (t : ℕ) → eval-eml-lts.Need-eml-interval-requires (eval-eml-calls t) (eval-eml-at t) eval-eml.Post
 eval-eml-eml-interval-requires t c κs = search needs
 
 eval-eml-returns-3 : (t : ℕ) → eval-eml-lts.Need-returns-3 (eval-eml-calls t) (eval-eml-at t) eval-eml.Post
 unfolding forward
-eval-eml-returns-3 t c = simp (sym (c .before .before .before .before .before .before .before .before .eval-interval .ensures) ∙ c .before .before .before .before .before .before .l .given .1, sym (c .before .before .before .before .eval-interval2 .ensures) ∙ c .before .before .r .given .1, c .eml-interval .ensures)
+eval-eml-returns-3 t c =
+    let p₁ = c .before .before in
+    let p₂ = p₁ .before .before in
+    let p₃ = p₂ .before .before in
+    let p₄ = p₃ .before .before in
+    simp (sym (p₄ .eval-interval .ensures) ∙ p₃ .l .given .1, sym (p₂ .eval-interval2 .ensures) ∙ p₁ .r .given .1, c .eml-interval .ensures)
 
 eval-interval-node-in-requires : (t : ℕ) → eval-interval-lts.Need-node-in-requires (eval-interval-calls t) (eval-interval-at t) eval-interval.Post
 eval-interval-node-in-requires t c κs = record-there _ _ (c .before .before .before .pre .1 .0)
@@ -131,7 +140,11 @@ eval-interval-returns-3 t c = simp (tree-var _ _ _ (sym (c .before .before .befo
 
 eval-interval-returns-4 : (t : ℕ) → eval-interval-lts.Need-returns-4 (eval-interval-calls t) (eval-interval-at t) eval-interval.Post
 unfolding evalInterval
-eval-interval-returns-4 t c = simp (tree-is _ _ (c .before .before .before .before .before .before .before .before .pre .1 .0) _ _ (sym (c .before .before .before .before .node-in .ensures) ∙ c .before .before .a .given .1), c .eval-eml .ensures)
+eval-interval-returns-4 t c =
+    let p₁ = c .before .before in
+    let p₂ = p₁ .before .before in
+    let s = p₂ .before .before .before .before in
+    simp (tree-is _ _ (s .pre .1 .0) _ _ (sym (p₂ .node-in .ensures) ∙ p₁ .a .given .1), c .eval-eml .ensures)
 
 pub +eval-eml+eval-interval-spec : {M : Type 1} → statement M
 +eval-eml+eval-interval-spec = close μ-eval-eml μ-eval-interval (λ t. eval-eml-lts.spec (eval-eml-calls t) (eval-eml-at t) eval-eml.Post

@@ -7,13 +7,20 @@ use Rattle.tree.specs.NodeLaws.{at-left, at-right, tree-is}
 
 narrow-eml-requires : tie.Need-narrow-eml-requires
 narrow-eml-requires c κs =
-    let s = c .before .before .before .before .before .before .before .before .before in
-    let e = sym (c .before .before .before .before .before .node-in .ensures) ∙ c .before .before .before .a .given .1 in
+    let p₁ = c .before .before .before in
+    let p₂ = p₁ .before .before in
+    let p₃ = p₂ .before .before .before .before in
+    let s = p₃ in
+    let e = sym (p₂ .node-in .ensures) ∙ p₁ .a .given .1 in
     (at-left _ _ (s .pre .0) _ _ e _ refl .1, at-right _ _ (s .pre .0) _ _ e _ refl .1, s .pre .1)
 
 returns-2 : tie.Need-returns-2
 returns-2 c =
-    rw (tree-is _ _ (c .before .before .before .before .before .before .before .before .before .before .before .before .before .before .pre .0) _ _ (sym (c .before .before .before .before .before .before .before .before .before .before .node-in .ensures) ∙ c .before .before .before .before .before .before .before .before .a .given .1)) (c .before .before .before .before .narrow-eml .ensures)
+    let p₁ = c .before .before .before .before in
+    let p₂ = p₁ .before .before .before .before in
+    let p₃ = p₂ .before .before in
+    let s = p₃ .before .before .before .before in
+    rw (tree-is _ _ (s .pre .0) _ _ (sym (p₃ .node-in .ensures) ∙ p₂ .a .given .1)) (p₁ .narrow-eml .ensures)
 
 pub narrow-atom-spec : {M : Type 1} → statement M
 narrow-atom-spec =

@@ -18,10 +18,23 @@ returns-2 : tie.Need-returns-2
 returns-2 c = var-moves _ _ _ _ (c .before .before .before .before .before .before .box-at .ensures) (c .before .before .before .before .before .intersect .ensures) (sym (c .before .before .before .before .is-empty .ensures) ∙ c .before .before .before .if1 .left) (sym (c .before .before .moves .ensures) ∙ c .before .if2 .taken) _ (sym (set-out (intervals _ _) _ _ (omega (arith, c .if3 .taken, intervals-short (now (c .before .before .before .before .before .before .before .before .before .before .before .args .lo)) (now (c .before .before .before .before .before .before .before .before .before .before .before .args .hi))))))
 
 returns-3 : tie.Need-returns-3
-returns-3 c = var-moves _ _ _ _ (c .before .before .before .before .before .before .box-at .ensures) (c .before .before .before .before .before .intersect .ensures) (sym (c .before .before .before .before .is-empty .ensures) ∙ c .before .before .before .if1 .left) (sym (c .before .before .moves .ensures) ∙ c .before .if2 .taken) _ (intervals-set _ _ _ _ _)
+returns-3 c =
+    let p₁ = c .before in
+    let p₂ = p₁ .before in
+    let p₃ = p₂ .before in
+    let p₄ = p₃ .before in
+    let p₅ = p₄ .before in
+    let p₆ = p₅ .before in
+    var-moves _ _ _ _ (p₆ .box-at .ensures) (p₅ .intersect .ensures) (sym (p₄ .is-empty .ensures) ∙ p₃ .if1 .left) (sym (p₂ .moves .ensures) ∙ p₁ .if2 .taken) _ (intervals-set _ _ _ _ _)
 
 returns-4 : tie.Need-returns-4
-returns-4 c = var-stays _ _ _ _ (c .before .before .before .before .before .box-at .ensures) (c .before .before .before .before .intersect .ensures) (sym (c .before .before .before .is-empty .ensures) ∙ c .before .before .if1 .left) (sym (c .before .moves .ensures) ∙ c .if2 .left)
+returns-4 c =
+    let p₁ = c .before in
+    let p₂ = p₁ .before in
+    let p₃ = p₂ .before in
+    let p₄ = p₃ .before in
+    let p₅ = p₄ .before in
+    var-stays _ _ _ _ (p₅ .box-at .ensures) (p₄ .intersect .ensures) (sym (p₃ .is-empty .ensures) ∙ p₂ .if1 .left) (sym (p₁ .moves .ensures) ∙ c .if2 .left)
 
 pub narrow-var-spec : {M : Type 1} → statement M
 narrow-var-spec =

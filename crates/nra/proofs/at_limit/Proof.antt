@@ -30,10 +30,14 @@ same-length-2 c = search needs
 
 returns-2 : tie.Need-returns-2
 returns-2 c =
-    let is-going = c .before .before .before .before .before .before .before .before .before .before .is-going in
-    let if1 = c .before .before .before .before .before .before .before .before .before .if1 in
-    let midpoints = c .before .before .before .before .before .before .before .midpoints in
-    let distance = c .before .before .distance in
+    let p₁ = c .before .before in
+    let p₂ = p₁ .before .before .before .before .before in
+    let p₃ = p₂ .before .before in
+    let p₄ = p₃ .before in
+    let is-going = p₄ .is-going in
+    let if1 = p₃ .if1 in
+    let midpoints = p₂ .midpoints in
+    let distance = p₁ .distance in
     λ bounds ε h. ends-there _ _ bounds ε _ _ h (sym (is-going .ensures) ∙ not-false _ (if1 .left)) (midpoints .ensures) (distance .ensures)
 
 pub at-limit-spec : {M : Type 1} → statement M

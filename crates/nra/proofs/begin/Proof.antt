@@ -16,8 +16,10 @@ enum-told-2 c = search needs
 
 begin-checked-requires : tie.Need-begin-checked-requires
 begin-checked-requires c κs =
-    let s = c .before .before .before .before .before .before .before .before .before .before .before .before .before .before .before .before .before .before .before in
-    let propagate = c .before .before .before .before .before .before .before .before .before .before .propagate in
+    let p₁ = c .before .before .before .before .before .before .before .before .before .before in
+    let p₂ = p₁ .before .before .before .before .before .before .before .before .before in
+    let s = p₂ in
+    let propagate = p₁ .propagate in
     (s .pre .0, working-after (s .pre .1) (propagate .kept .1 .1 .1 .1 .1 .0) (propagate .kept .1 .1 .1 .1 .1 .1 .0) refl refl)
 
 enum-told-3 : tie.Need-enum-told-3
@@ -25,8 +27,10 @@ enum-told-3 c = search needs
 
 begin-checked-requires-2 : tie.Need-begin-checked-requires-2
 begin-checked-requires-2 c κs =
-    let s = c .before .before .before .before .before .before .before .before .before .before .before .before .before .before .before .before .before .before .before in
-    let propagate = c .before .before .before .before .before .before .before .before .before .before .propagate in
+    let p₁ = c .before .before .before .before .before .before .before .before .before .before in
+    let p₂ = p₁ .before .before .before .before .before .before .before .before .before in
+    let s = p₂ in
+    let propagate = p₁ .propagate in
     (s .pre .0, working-after (s .pre .1) (propagate .kept .1 .1 .1 .1 .1 .0) (propagate .kept .1 .1 .1 .1 .1 .1 .0) refl refl)
 
 same-length : tie.Need-same-length
@@ -52,9 +56,12 @@ same-length-6 c = search needs
 
 returns-2 : tie.Need-returns-2
 returns-2 c =
-    let propagate = c .before .before .before .before .before .before .before .before .before .before .before .before .before .before .before .propagate in
-    let enum-told2 = c .before .before .before .before .before .before .before .before .before .enum-told2 in
-    let begin-checked = c .before .before .before .before .begin-checked in
+    let p₁ = c .before .before .before .before in
+    let p₂ = p₁ .before .before .before .before .before in
+    let p₃ = p₂ .before .before .before .before .before .before in
+    let propagate = p₃ .propagate in
+    let enum-told2 = p₂ .enum-told2 in
+    let begin-checked = p₁ .begin-checked in
     λ bounds. begin-changed _ _ _ _ _ (propagate .ensures) bounds _ (enum-told2 .given .1) (begin-checked .ensures bounds)
 
 same-length-7 : tie.Need-same-length-7
@@ -71,9 +78,12 @@ same-length-10 c = search needs
 
 returns-3 : tie.Need-returns-3
 returns-3 c =
-    let propagate = c .before .before .before .before .before .before .before .before .before .before .before .before .before .before .before .propagate in
-    let enum-told3 = c .before .before .before .before .before .before .before .before .before .enum-told3 in
-    let begin-checked2 = c .before .before .before .before .begin-checked2 in
+    let p₁ = c .before .before .before .before in
+    let p₂ = p₁ .before .before .before .before .before in
+    let p₃ = p₂ .before .before .before .before .before .before in
+    let propagate = p₃ .propagate in
+    let enum-told3 = p₂ .enum-told3 in
+    let begin-checked2 = p₁ .begin-checked2 in
     λ bounds. begin-stable _ _ _ _ _ (propagate .ensures) bounds _ (enum-told3 .given .1) (begin-checked2 .ensures bounds)
 
 pub begin-spec : {M : Type 1} → statement M

@@ -24,7 +24,11 @@ same-length-2 : tie.Need-same-length-2
 same-length-2 c = search needs
 
 returns : tie.Need-returns
-returns c = λ bounds. begin-passed _ _ _ (c .before .before .before .before .before .before .before .before .before .midpoints .ensures) (c .before .before .before .before .check-constraint .ensures) bounds _ (c .before .if1 .taken) (c .all-below .ensures)
+returns c =
+    let p₁ = c .before in
+    let p₂ = p₁ .before .before .before in
+    let p₃ = p₂ .before .before .before .before .before in
+    λ bounds. begin-passed _ _ _ (p₃ .midpoints .ensures) (p₂ .check-constraint .ensures) bounds _ (p₁ .if1 .taken) (c .all-below .ensures)
 
 same-length-3 : tie.Need-same-length-3
 same-length-3 c = search needs
@@ -33,7 +37,10 @@ same-length-4 : tie.Need-same-length-4
 same-length-4 c = search needs
 
 returns-2 : tie.Need-returns-2
-returns-2 c = λ bounds. begin-fails _ _ _ (c .before .before .before .before .before .before .before .before .midpoints .ensures) (c .before .before .before .check-constraint .ensures) bounds _ (c .if1 .left)
+returns-2 c =
+    let p₁ = c .before .before .before in
+    let p₂ = p₁ .before .before .before .before .before in
+    λ bounds. begin-fails _ _ _ (p₂ .midpoints .ensures) (p₁ .check-constraint .ensures) bounds _ (c .if1 .left)
 
 pub begin-checked-spec : {M : Type 1} → statement M
 begin-checked-spec =

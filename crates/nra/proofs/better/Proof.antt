@@ -36,11 +36,16 @@ same-length-2 c = search needs
 
 returns : tie.Need-returns
 returns c =
-    let midpoints = c .before .before .before .before .before .before .before .before .before .before .before .before .before .before .before .before .before .before .before .before .before .midpoints in
-    let box-at = c .before .before .before .before .before .before .before .before .before .before .before .before .before .before .before .before .before .before .box-at in
-    let split = c .before .before .before .before .before .before .before .before .before .before .before .before .before .before .before .before .before .split in
-    let residual-in = c .before .before .before .before .before .before .before .before .before .before .before .before .residual-in in
-    let residual-in2 = c .before .before .before .before .before .residual-in2 in
+    let p₁ = c .before .before .before .before .before in
+    let p₂ = p₁ .before .before .before .before .before .before .before in
+    let p₃ = p₂ .before .before .before .before .before in
+    let p₄ = p₃ .before in
+    let p₅ = p₄ .before .before .before in
+    let midpoints = p₅ .midpoints in
+    let box-at = p₄ .box-at in
+    let split = p₃ .split in
+    let residual-in = p₂ .residual-in in
+    let residual-in2 = p₁ .residual-in2 in
     let if1 = c .if1 in
     better-lower _ _ _ _ (midpoints .ensures) (box-at .ensures) (split .ensures) (residual-in .ensures .1) (residual-in .ensures .0) (residual-in2 .ensures .0) (if1 .taken)
 
@@ -52,11 +57,16 @@ same-length-4 c = search needs
 
 returns-2 : tie.Need-returns-2
 returns-2 c =
-    let midpoints = c .before .before .before .before .before .before .before .before .before .before .before .before .before .before .before .before .before .before .before .before .before .midpoints in
-    let box-at = c .before .before .before .before .before .before .before .before .before .before .before .before .before .before .before .before .before .before .box-at in
-    let split = c .before .before .before .before .before .before .before .before .before .before .before .before .before .before .before .before .before .split in
-    let residual-in = c .before .before .before .before .before .before .before .before .before .before .before .before .residual-in in
-    let residual-in2 = c .before .before .before .before .before .residual-in2 in
+    let p₁ = c .before .before .before .before .before in
+    let p₂ = p₁ .before .before .before .before .before .before .before in
+    let p₃ = p₂ .before .before .before .before .before in
+    let p₄ = p₃ .before in
+    let p₅ = p₄ .before .before .before in
+    let midpoints = p₅ .midpoints in
+    let box-at = p₄ .box-at in
+    let split = p₃ .split in
+    let residual-in = p₂ .residual-in in
+    let residual-in2 = p₁ .residual-in2 in
     let if1 = c .if1 in
     better-upper _ _ _ _ (midpoints .ensures) (box-at .ensures) (split .ensures) (residual-in .ensures .1) (residual-in .ensures .0) (residual-in2 .ensures .0) (if1 .left)
 

@@ -9,8 +9,10 @@ halve-widest-requires c κs = search needs
 
 settle-requires : tie.Need-settle-requires
 settle-requires c κs =
-    let s = c .before .before .before .before .before .before .before .before .before .before .before .before .before .before .before .before .before .before .before .before .before .before .before in
-    let halve-widest = c .before .before .before .before .before .before .before .before .before .before .before .before .halve-widest in
+    let p₁ = c .before .before .before .before .before .before .before .before .before .before .before .before in
+    let p₂ = p₁ .before .before .before .before .before .before .before .before .before .before .before in
+    let s = p₂ in
+    let halve-widest = p₁ .halve-widest in
     (s .pre .0, working-after (s .pre .1) (halve-widest .kept .1 .1 .1 .1 .1 .0) (halve-widest .kept .1 .1 .1 .1 .1 .1 .0) (halve-widest .kept .1 .1 .1 .1 .1 .1 .1 .0) (halve-widest .kept .1 .1 .1 .1 .1 .1 .1 .1 .0))
 
 same-length : tie.Need-same-length
@@ -27,8 +29,10 @@ same-length-4 c = search needs
 
 returns : tie.Need-returns
 returns c =
-    let halve-widest = c .before .before .before .before .before .before .before .before .before .before .before .before .before .before .before .before .before .before .before .before .before .halve-widest in
-    let settle = c .before .before .before .before .before .before .before .before .settle in
+    let p₁ = c .before .before .before .before .before .before .before .before in
+    let p₂ = p₁ .before .before .before .before .before .before .before .before .before .before .before .before .before in
+    let halve-widest = p₂ .halve-widest in
+    let settle = p₁ .settle in
     λ bounds h. halved-settles _ _ bounds _ _ _ _ _ h (halve-widest .ensures) (settle .ensures bounds)
 
 pub halve-spec : {M : Type 1} → statement M

@@ -10,8 +10,10 @@ widest-requires c κs = search needs
 
 better-requires : tie.Need-better-requires
 better-requires c κs =
-    let s = c .before .before .before .before .before .before .before .before .before .before .before .before .before in
-    let widest = c .before .before .before .before .widest in
+    let p₁ = c .before .before .before .before in
+    let p₂ = p₁ .before .before .before .before .before .before .before .before .before in
+    let s = p₂ in
+    let widest = p₁ .widest in
     (s .pre .0, (s .pre .1, widest-at _ _ _ (s .pre .1 .paired) (s .pre .1 .some) (widest .ensures)))
 
 mul-lo : tie.Need-mul-lo
@@ -22,8 +24,10 @@ mul-lo c =
 
 slice-write-lo : tie.Need-slice-write-lo
 slice-write-lo c =
-    let s = c .before .before .before .before .before .before .before .before .before .before .before .before .before .before .before .before .before .before in
-    let widest = c .before .before .before .before .before .before .before .before .before .widest in
+    let p₁ = c .before .before .before .before .before .before .before .before .before in
+    let p₂ = p₁ .before .before .before .before .before .before .before .before .before in
+    let s = p₂ in
+    let widest = p₁ .widest in
     widest-at _ _ _ (s .pre .1 .paired) (s .pre .1 .some) (widest .ensures)
 
 mul-hi : tie.Need-mul-hi
@@ -51,7 +55,10 @@ same-length-4 : tie.Need-same-length-4
 same-length-4 c = search needs
 
 returns : tie.Need-returns
-returns c = stored _ _ _ _ _ _ (c .before .before .before .before .before .before .before .before .before .widest .ensures) (c .before .before .before .before .better .ensures)
+returns c =
+    let p₁ = c .before .before .before .before in
+    let p₂ = p₁ .before .before .before .before .before in
+    stored _ _ _ _ _ _ (p₂ .widest .ensures) (p₁ .better .ensures)
 
 pub halve-widest-spec : {M : Type 1} → statement M
 halve-widest-spec =

@@ -22,7 +22,10 @@ same-length-2 : tie.Need-same-length-2
 same-length-2 c = search needs
 
 returns : tie.Need-returns
-returns c = (cc (c .before .before .distance .ensures, c .before .before .before .before .before .midpoint .ensures), cc (c .before .before .before .before .before .midpoint .ensures))
+returns c =
+    let p₁ = c .before .before in
+    let p₂ = p₁ .before .before .before in
+    (cc (p₁ .distance .ensures, p₂ .midpoint .ensures), cc (p₂ .midpoint .ensures))
 
 pub residual-in-spec : {M : Type 1} → statement M
 residual-in-spec =

@@ -50,8 +50,10 @@ returns c = λ bounds. runs-stopped _ _ bounds _ _ _ _ _ (c .before .before .bef
 
 halve-requires : tie.Need-halve-requires Inv-loop μ-loop
 halve-requires c κs =
-    let s = c .before .before .before .before .before .before .before .before .before .before .before .before .before .before in
-    let loop = c .before .before .before .before .before .before .before .loop in
+    let p₁ = c .before .before .before .before .before .before .before in
+    let p₂ = p₁ .before .before .before .before .before .before .before in
+    let s = p₂ in
+    let loop = p₁ .loop in
     (s .pre .0, working-after (s .pre .1) (loop .inv .0) (loop .inv .1) (loop .inv .2) (loop .inv .3))
 
 add-h : tie.Need-add-h Inv-loop μ-loop
@@ -64,11 +66,16 @@ loop-less c = omega (arith, c .before .before .before .before .before .before .b
 
 loop-again : tie.Need-loop-again Inv-loop μ-loop
 loop-again c =
-    let loop = c .before .before .before .before .before .before .before .before .before .before .before .before .before .before .before .before .loop in
-    let loop-test = c .before .before .before .before .before .before .before .before .before .before .before .before .before .before .before .loop-test in
-    let is-going = c .before .before .before .before .before .before .before .before .before .before .before .before .before .before .is-going in
-    let if1 = c .before .before .before .before .before .before .before .before .before .before .before .before .before .if1 in
-    let halve = c .before .before .before .before .before .before .before .before .halve in
+    let p₁ = c .before .before .before .before .before .before .before .before in
+    let p₂ = p₁ .before .before .before .before .before in
+    let p₃ = p₂ .before in
+    let p₄ = p₃ .before in
+    let p₅ = p₄ .before in
+    let loop = p₅ .loop in
+    let loop-test = p₄ .loop-test in
+    let is-going = p₃ .is-going in
+    let if1 = p₂ .if1 in
+    let halve = p₁ .halve in
     (halve .kept .1 .1 .1 .1 .1 .1 .0 ∙ loop .inv .0, halve .kept .1 .1 .1 .1 .1 .1 .1 .0 ∙ loop .inv .1, halve .kept .1 .1 .1 .1 .1 .1 .1 .1 .0 ∙ loop .inv .2, halve .kept .1 .1 .1 .1 .1 .1 .1 .1 .1 .0 ∙ loop .inv .3, λ bounds. runs-on _ _ bounds _ _ _ _ _ (loop .inv .4 bounds) (loop-test .taken) (sym (is-going .ensures) ∙ not-false _ (if1 .left)) (halve .ensures bounds (loop .h)))
 
 same-length-5 : tie.Need-same-length-5 Inv-loop μ-loop

@@ -16,8 +16,10 @@ enum-told-2 c = search needs
 
 settle-checked-requires : tie.Need-settle-checked-requires
 settle-checked-requires c κs =
-    let s = c .before .before .before .before .before .before .before .before .before .before .before .before .before .before .before .before .before .before .before in
-    let propagate = c .before .before .before .before .before .before .before .before .before .before .propagate in
+    let p₁ = c .before .before .before .before .before .before .before .before .before .before in
+    let p₂ = p₁ .before .before .before .before .before .before .before .before .before in
+    let s = p₂ in
+    let propagate = p₁ .propagate in
     (s .pre .0, working-after (s .pre .1) (propagate .kept .1 .1 .1 .1 .1 .0) (propagate .kept .1 .1 .1 .1 .1 .1 .0) refl refl)
 
 enum-told-3 : tie.Need-enum-told-3
@@ -25,8 +27,10 @@ enum-told-3 c = search needs
 
 settle-checked-requires-2 : tie.Need-settle-checked-requires-2
 settle-checked-requires-2 c κs =
-    let s = c .before .before .before .before .before .before .before .before .before .before .before .before .before .before .before .before .before .before .before in
-    let propagate = c .before .before .before .before .before .before .before .before .before .before .propagate in
+    let p₁ = c .before .before .before .before .before .before .before .before .before .before in
+    let p₂ = p₁ .before .before .before .before .before .before .before .before .before in
+    let s = p₂ in
+    let propagate = p₁ .propagate in
     (s .pre .0, working-after (s .pre .1) (propagate .kept .1 .1 .1 .1 .1 .0) (propagate .kept .1 .1 .1 .1 .1 .1 .0) refl refl)
 
 same-length : tie.Need-same-length
@@ -52,9 +56,12 @@ same-length-6 c = search needs
 
 returns-2 : tie.Need-returns-2
 returns-2 c =
-    let propagate = c .before .before .before .before .before .before .before .before .before .before .before .before .before .before .before .propagate in
-    let enum-told2 = c .before .before .before .before .before .before .before .before .before .enum-told2 in
-    let settle-checked = c .before .before .before .before .settle-checked in
+    let p₁ = c .before .before .before .before in
+    let p₂ = p₁ .before .before .before .before .before in
+    let p₃ = p₂ .before .before .before .before .before .before in
+    let propagate = p₃ .propagate in
+    let enum-told2 = p₂ .enum-told2 in
+    let settle-checked = p₁ .settle-checked in
     λ bounds h. settle-changed _ _ _ _ _ (propagate .ensures) bounds _ h (enum-told2 .given .1) (settle-checked .ensures bounds h)
 
 same-length-7 : tie.Need-same-length-7
@@ -71,9 +78,12 @@ same-length-10 c = search needs
 
 returns-3 : tie.Need-returns-3
 returns-3 c =
-    let propagate = c .before .before .before .before .before .before .before .before .before .before .before .before .before .before .before .propagate in
-    let enum-told3 = c .before .before .before .before .before .before .before .before .before .enum-told3 in
-    let settle-checked2 = c .before .before .before .before .settle-checked2 in
+    let p₁ = c .before .before .before .before in
+    let p₂ = p₁ .before .before .before .before .before in
+    let p₃ = p₂ .before .before .before .before .before .before in
+    let propagate = p₃ .propagate in
+    let enum-told3 = p₂ .enum-told3 in
+    let settle-checked2 = p₁ .settle-checked2 in
     λ bounds h. settle-stable _ _ _ _ _ (propagate .ensures) bounds _ h (enum-told3 .given .1) (settle-checked2 .ensures bounds h)
 
 pub settle-spec : {M : Type 1} → statement M

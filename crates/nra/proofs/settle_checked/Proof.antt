@@ -21,7 +21,10 @@ same-length-2 : tie.Need-same-length-2
 same-length-2 c = search needs
 
 returns : tie.Need-returns
-returns c = λ bounds h. settle-passed _ _ _ (c .before .before .before .before .before .before .before .before .midpoints .ensures) (c .before .before .before .check-constraint .ensures) bounds _ h (c .if1 .taken)
+returns c =
+    let p₁ = c .before .before .before in
+    let p₂ = p₁ .before .before .before .before .before in
+    λ bounds h. settle-passed _ _ _ (p₂ .midpoints .ensures) (p₁ .check-constraint .ensures) bounds _ h (c .if1 .taken)
 
 all-below-requires : tie.Need-all-below-requires
 all-below-requires c κs = search needs
@@ -41,12 +44,18 @@ same-length-4 c = search needs
 
 returns-2 : tie.Need-returns-2
 returns-2 c =
-    let midpoints = c .before .before .before .before .before .before .before .before .before .before .before .before .before .before .before .midpoints in
-    let check-constraint = c .before .before .before .before .before .before .before .before .before .before .check-constraint in
-    let if1 = c .before .before .before .before .before .before .before .if1 in
-    let all-below = c .before .before .before .before .before .before .all-below in
-    let if2 = c .before .before .before .before .before .if2 in
-    let distance = c .before .before .distance in
+    let p₁ = c .before .before in
+    let p₂ = p₁ .before .before .before in
+    let p₃ = p₂ .before in
+    let p₄ = p₃ .before in
+    let p₅ = p₄ .before .before .before in
+    let p₆ = p₅ .before .before .before .before .before in
+    let midpoints = p₆ .midpoints in
+    let check-constraint = p₅ .check-constraint in
+    let if1 = p₄ .if1 in
+    let all-below = p₃ .all-below in
+    let if2 = p₂ .if2 in
+    let distance = p₁ .distance in
     λ bounds h. settle-narrow _ _ _ (midpoints .ensures) (check-constraint .ensures) bounds _ h (if1 .left) (all-below .ensures) (if2 .taken) (distance .ensures)
 
 same-length-5 : tie.Need-same-length-5
@@ -57,10 +66,14 @@ same-length-6 c = search needs
 
 returns-3 : tie.Need-returns-3
 returns-3 c =
-    let midpoints = c .before .before .before .before .before .before .before .before .before .before .midpoints in
-    let check-constraint = c .before .before .before .before .before .check-constraint in
-    let if1 = c .before .before .if1 in
-    let all-below = c .before .all-below in
+    let p₁ = c .before in
+    let p₂ = p₁ .before in
+    let p₃ = p₂ .before .before .before in
+    let p₄ = p₃ .before .before .before .before .before in
+    let midpoints = p₄ .midpoints in
+    let check-constraint = p₃ .check-constraint in
+    let if1 = p₂ .if1 in
+    let all-below = p₁ .all-below in
     let if2 = c .if2 in
     λ bounds h. settle-goes _ _ _ (midpoints .ensures) (check-constraint .ensures) bounds _ h (if1 .left) (all-below .ensures) (if2 .left)
 

@@ -24,7 +24,12 @@ refused-requires-2 : tie.Need-refused-requires-2
 refused-requires-2 c κs = search needs
 
 returns-2 : tie.Need-returns-2
-returns-2 c = refused-limit _ _ _ _ _ _ (sym (c .before .before .before .before .test-given .ensures .0) ∙ c .before .before .before .if1 .left) (c .before .before .limit-refusal .ensures) (c .before .if2 .taken) (c .refused2 .ensures)
+returns-2 c =
+    let p₁ = c .before in
+    let p₂ = p₁ .before in
+    let p₃ = p₂ .before in
+    let p₄ = p₃ .before in
+    refused-limit _ _ _ _ _ _ (sym (p₄ .test-given .ensures .0) ∙ p₃ .if1 .left) (p₂ .limit-refusal .ensures) (p₁ .if2 .taken) (c .refused2 .ensures)
 
 are-boxes-requires : tie.Need-are-boxes-requires
 are-boxes-requires c κs = search needs
@@ -34,12 +39,18 @@ refused-requires-3 c κs = search needs
 
 returns-3 : tie.Need-returns-3
 returns-3 c =
-    let test-given = c .before .before .before .before .before .before .test-given in
-    let if1 = c .before .before .before .before .before .if1 in
-    let limit-refusal = c .before .before .before .before .limit-refusal in
-    let if2 = c .before .before .before .if2 in
-    let are-boxes = c .before .before .are-boxes in
-    let if3 = c .before .if3 in
+    let p₁ = c .before in
+    let p₂ = p₁ .before in
+    let p₃ = p₂ .before in
+    let p₄ = p₃ .before in
+    let p₅ = p₄ .before in
+    let p₆ = p₅ .before in
+    let test-given = p₆ .test-given in
+    let if1 = p₅ .if1 in
+    let limit-refusal = p₄ .limit-refusal in
+    let if2 = p₃ .if2 in
+    let are-boxes = p₂ .are-boxes in
+    let if3 = p₁ .if3 in
     let refused3 = c .refused3 in
     refused-boxes _ _ _ _ _ _ (sym (test-given .ensures .0) ∙ if1 .left) (limit-refusal .ensures) (if2 .left) (are-boxes .ensures) (if3 .taken) (refused3 .ensures)
 
@@ -51,21 +62,32 @@ usual-requires c κs = search needs
 
 solve-in-requires : tie.Need-solve-in-requires
 solve-in-requires c κs =
-    let test-given = c .before .before .before .before .before .before .before .test-given in
-    let if1 = c .before .before .before .before .before .before .if1 in
-    let are-boxes = c .before .before .before .are-boxes in
-    let if3 = c .before .before .if3 in
+    let p₁ = c .before .before in
+    let p₂ = p₁ .before in
+    let p₃ = p₂ .before .before .before in
+    let p₄ = p₃ .before in
+    let test-given = p₄ .test-given in
+    let if1 = p₃ .if1 in
+    let are-boxes = p₂ .are-boxes in
+    let if3 = p₁ .if3 in
     let e = sym (test-given .ensures .0) ∙ if1 .left in (last-given _ _ e _ (given-ready _ _ e _ _ refl (test-given .ensures .1)), as-many _ _ (sym (are-boxes .ensures) ∙ not-false _ (if3 .left)))
 
 returns-4 : tie.Need-returns-4
 returns-4 c =
-    let test-given = c .before .before .before .before .before .before .before .before .test-given in
-    let if1 = c .before .before .before .before .before .before .before .if1 in
-    let limit-refusal = c .before .before .before .before .before .before .limit-refusal in
-    let if2 = c .before .before .before .before .before .if2 in
-    let are-boxes = c .before .before .before .before .are-boxes in
-    let if3 = c .before .before .before .if3 in
-    let usual = c .before .usual in
+    let p₁ = c .before in
+    let p₂ = p₁ .before .before in
+    let p₃ = p₂ .before in
+    let p₄ = p₃ .before in
+    let p₅ = p₄ .before in
+    let p₆ = p₅ .before in
+    let p₇ = p₆ .before in
+    let test-given = p₇ .test-given in
+    let if1 = p₆ .if1 in
+    let limit-refusal = p₅ .limit-refusal in
+    let if2 = p₄ .if2 in
+    let are-boxes = p₃ .are-boxes in
+    let if3 = p₂ .if3 in
+    let usual = p₁ .usual in
     let solve-in = c .solve-in in
     solved-given _ _ _ _ _ _ (sym (test-given .ensures .0) ∙ if1 .left) (limit-refusal .ensures) (if2 .left) (are-boxes .ensures) (if3 .left) (usual .ensures) (solve-in .ensures)
 

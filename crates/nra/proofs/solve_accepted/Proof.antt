@@ -49,46 +49,65 @@ usual-requires c κs = search needs
 
 array-share-prefix-lo : tie.Need-array-share-prefix-lo
 array-share-prefix-lo c =
-    let s = c .before .before .before .before .before .before .before .before in
-    let file-bounds = c .before .before .before .before .before .before .file-bounds in
+    let p₁ = c .before .before .before .before .before .before in
+    let p₂ = p₁ .before .before in
+    let s = p₂ in
+    let file-bounds = p₁ .file-bounds in
     few (file-bounds .result .lo) (length-unmapped Float (file-bounds .result .lo) 16 (file-bounds .ok .1 .1 .0 .1 .0 .1)) (file-bounds .ensures .0) (is-laid _ (s .pre .0))
 
 slice-aggregate-solve-in : tie.Need-slice-aggregate-solve-in
 slice-aggregate-solve-in c =
-    let s = c .before .before .before .before .before .before .before .before .before in
-    let file-bounds = c .before .before .before .before .before .before .before .file-bounds in
+    let p₁ = c .before .before .before .before .before .before .before in
+    let p₂ = p₁ .before .before in
+    let s = p₂ in
+    let file-bounds = p₁ .file-bounds in
     sym (length-take-le _ (file-bounds .result .lo) (few (file-bounds .result .lo) (length-unmapped Float (file-bounds .result .lo) 16 (file-bounds .ok .1 .1 .0 .1 .0 .1)) (file-bounds .ensures .0) (is-laid _ (s .pre .0))))
 
 array-share-prefix-hi : tie.Need-array-share-prefix-hi
 array-share-prefix-hi c =
-    let s = c .before .before .before .before .before .before .before .before .before in
-    let file-bounds = c .before .before .before .before .before .before .before .file-bounds in
+    let p₁ = c .before .before .before .before .before .before .before in
+    let p₂ = p₁ .before .before in
+    let s = p₂ in
+    let file-bounds = p₁ .file-bounds in
     few (file-bounds .result .hi) (length-unmapped Float (file-bounds .result .hi) 16 (file-bounds .ok .1 .1 .1 .0 .1 .0 .1)) (file-bounds .ensures .0) (is-laid _ (s .pre .0))
 
 slice-aggregate-solve-in-2 : tie.Need-slice-aggregate-solve-in-2
 slice-aggregate-solve-in-2 c =
-    let s = c .before .before .before .before .before .before .before .before .before .before in
-    let file-bounds = c .before .before .before .before .before .before .before .before .file-bounds in
+    let p₁ = c .before .before .before .before .before .before .before .before in
+    let p₂ = p₁ .before .before in
+    let s = p₂ in
+    let file-bounds = p₁ .file-bounds in
     sym (length-take-le _ (file-bounds .result .hi) (few (file-bounds .result .hi) (length-unmapped Float (file-bounds .result .hi) 16 (file-bounds .ok .1 .1 .1 .0 .1 .0 .1)) (file-bounds .ensures .0) (is-laid _ (s .pre .0))))
 
 solve-in-requires : tie.Need-solve-in-requires
 solve-in-requires c κs =
-    let s = c .before .before .before .before .before .before .before .before .before .before in
-    let file-bounds = c .before .before .before .before .before .before .before .before .file-bounds in
-    let constraint-count = c .before .before .before .before .before .constraint-count in
-    let nodes-of = c .before .before .before .before .nodes-of in
-    let constraints-of = c .before .before .before .constraints-of in
+    let p₁ = c .before .before .before in
+    let p₂ = p₁ .before in
+    let p₃ = p₂ .before in
+    let p₄ = p₃ .before .before .before in
+    let p₅ = p₄ .before .before in
+    let s = p₅ in
+    let file-bounds = p₄ .file-bounds in
+    let constraint-count = p₃ .constraint-count in
+    let nodes-of = p₂ .nodes-of in
+    let constraints-of = p₁ .constraints-of in
     (last-of _ (s .pre .0) _ _ _ (nodes-of .ensures) (constraints-of .ensures) (constraint-count .ensures) _ (s .pre .1), length-take-le _ (file-bounds .result .hi) (few (file-bounds .result .hi) (length-unmapped Float (file-bounds .result .hi) 16 (file-bounds .ok .1 .1 .1 .0 .1 .0 .1)) (file-bounds .ensures .0) (is-laid _ (s .pre .0))) ∙ sym (length-take-le _ (file-bounds .result .lo) (few (file-bounds .result .lo) (length-unmapped Float (file-bounds .result .lo) 16 (file-bounds .ok .1 .1 .0 .1 .0 .1)) (file-bounds .ensures .0) (is-laid _ (s .pre .0)))))
 
 returns : tie.Need-returns
 unfolding boxesOf
 returns c =
-    let s = c .before .before .before .before .before .before .before .before .before .before .before in
-    let file-bounds = c .before .before .before .before .before .before .before .before .before .file-bounds in
-    let constraint-count = c .before .before .before .before .before .before .constraint-count in
-    let nodes-of = c .before .before .before .before .before .nodes-of in
-    let constraints-of = c .before .before .before .before .constraints-of in
-    let usual = c .before .before .before .usual in
+    let p₁ = c .before .before .before in
+    let p₂ = p₁ .before in
+    let p₃ = p₂ .before in
+    let p₄ = p₃ .before in
+    let p₅ = p₄ .before .before .before in
+    let p₆ = p₅ .before .before in
+    let s = p₆ in
+    let file-bounds = p₅ .file-bounds in
+    let constraint-count = p₄ .constraint-count in
+    let nodes-of = p₃ .nodes-of in
+    let constraints-of = p₂ .constraints-of in
+    let usual = p₁ .usual in
     let solve-in = c .solve-in in
     solved-accepted _ _ _ (s .pre .0) _ _ _ (nodes-of .ensures) (constraints-of .ensures) (constraint-count .ensures) (usual .ensures) (file-bounds .ensures .1) (solve-in .ensures)
 

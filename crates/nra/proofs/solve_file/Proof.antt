@@ -22,17 +22,29 @@ refused-requires-2 : tie.Need-refused-requires-2
 refused-requires-2 c κs = search needs
 
 returns-2 : tie.Need-returns-2
-returns-2 c = refused-later _ _ _ (sym (c .before .before .before .before .test-file .ensures .0) ∙ c .before .before .before .if1 .left) (c .before .before .limit-refusal .ensures) (c .before .if2 .taken) (c .refused2 .ensures)
+returns-2 c =
+    let p₁ = c .before in
+    let p₂ = p₁ .before in
+    let p₃ = p₂ .before in
+    let p₄ = p₃ .before in
+    refused-later _ _ _ (sym (p₄ .test-file .ensures .0) ∙ p₃ .if1 .left) (p₂ .limit-refusal .ensures) (p₁ .if2 .taken) (c .refused2 .ensures)
 
 solve-accepted-requires : tie.Need-solve-accepted-requires
-solve-accepted-requires c κs = let e = sym (c .before .before .before .before .test-file .ensures .0) ∙ c .before .before .before .if1 .left in (e, file-ready _ e _ _ refl (c .before .before .before .before .test-file .ensures .1))
+solve-accepted-requires c κs =
+    let p₁ = c .before .before .before in
+    let p₂ = p₁ .before in
+    let e = sym (p₂ .test-file .ensures .0) ∙ p₁ .if1 .left in (e, file-ready _ e _ _ refl (p₂ .test-file .ensures .1))
 
 returns-3 : tie.Need-returns-3
 returns-3 c =
-    let test-file = c .before .before .before .before .before .test-file in
-    let if1 = c .before .before .before .before .if1 in
-    let limit-refusal = c .before .before .before .limit-refusal in
-    let if2 = c .before .before .if2 in
+    let p₁ = c .before .before in
+    let p₂ = p₁ .before in
+    let p₃ = p₂ .before in
+    let p₄ = p₃ .before in
+    let test-file = p₄ .test-file in
+    let if1 = p₃ .if1 in
+    let limit-refusal = p₂ .limit-refusal in
+    let if2 = p₁ .if2 in
     let solve-accepted = c .solve-accepted in
     solved-file _ _ _ (sym (test-file .ensures .0) ∙ if1 .left) (limit-refusal .ensures) (if2 .left) (solve-accepted .ensures)
 

@@ -57,17 +57,25 @@ float-from-bits-result-3 c = no-nan-bits binary64 (toBits binary64 (c .before .b
 returns-4 : tie.Need-returns-4
 unfolding ofBits toBits
 returns-4 c =
-    let s = c .before .before .before .before in
+    let p₁ = c .before in
+    let p₂ = p₁ .before in
+    let p₃ = p₂ .before in
+    let p₄ = p₃ .before in
+    let s = p₄ in
     let x = s .args .x in
-    let l = positive x (c .before .before .before .if1 .left) (c .before .before .if2 .left) (c .before .if3 .left) in
+    let l = positive x (p₃ .if1 .left) (p₂ .if2 .left) (p₁ .if3 .left) in
     sym (nextUp-positive binary64 x l (below-inf binary64 x (passed (s .good .0 .1)) l (c .if4 .taken)))
 
 returns-5 : tie.Need-returns-5
 unfolding ofBits toBits
 returns-5 c =
-    let s = c .before .before .before .before in
+    let p₁ = c .before in
+    let p₂ = p₁ .before in
+    let p₃ = p₂ .before in
+    let p₄ = p₃ .before in
+    let s = p₄ in
     let x = s .args .x in
-    let l = positive x (c .before .before .before .if1 .left) (c .before .before .if2 .left) (c .before .if3 .left) in
+    let l = positive x (p₃ .if1 .left) (p₂ .if2 .left) (p₁ .if3 .left) in
     let e = is-inf binary64 x (passed (s .good .0 .1)) l (c .if4 .left) in
     e ∙ sym (nextUp-inf binary64) ∙ ap (nextUp binary64) (sym e)
 

@@ -14,24 +14,48 @@ returns-2 c = check-over _ _ _ _ (c .before .before .before .test-sized .ensures
 
 sub-last : tie.Need-sub-last
 sub-last c =
-    let s = c .before .before .before .before .before .before .before .before in
-    some-record (now (s .args .nodes)) (now (s .args .constraints)) (now (s .args .point)) _ (c .before .before .before .test-sized .ensures .0) (c .before .if1 .left)
+    let p₁ = c .before in
+    let p₂ = p₁ .before .before in
+    let p₃ = p₂ .before .before .before .before .before in
+    let s = p₃ in
+    some-record (now (s .args .nodes)) (now (s .args .constraints)) (now (s .args .point)) _ (p₂ .test-sized .ensures .0) (p₁ .if1 .left)
 
 check-constraint-requires : tie.Need-check-constraint-requires
 check-constraint-requires c κs =
-    let s = c .before .before .before .before .before .before .before .before .before .before .before .before .before in
-    (last-ready (now (s .args .nodes)) (now (s .args .constraints)) (now (s .args .point)) _ (c .before .before .before .before .before .before .before .before .test-sized .ensures .0) (c .before .before .before .before .before .before .if1 .left) _ _ refl (c .before .before .before .before .before .before .before .before .test-sized .ensures .1 .0), short-lent _ _ _ (c .before .before .before .before .before .if2 .left) _ (c .before .before .before .before .before .before .before .before .test-sized .ensures .1 .1 (c .before .before .before .before .before .before .if1 .left)) (c .before .before .before .if3 .taken) refl)
+    let p₁ = c .before .before .before in
+    let p₂ = p₁ .before .before in
+    let p₃ = p₂ .before in
+    let p₄ = p₃ .before .before in
+    let p₅ = p₄ .before .before .before .before .before in
+    let s = p₅ in
+    (last-ready (now (s .args .nodes)) (now (s .args .constraints)) (now (s .args .point)) _ (p₄ .test-sized .ensures .0) (p₃ .if1 .left) _ _ refl (p₄ .test-sized .ensures .1 .0), short-lent _ _ _ (p₂ .if2 .left) _ (p₄ .test-sized .ensures .1 .1 (p₃ .if1 .left)) (p₁ .if3 .taken) refl)
 
 returns-3 : tie.Need-returns-3
-returns-3 c = check-done _ _ _ _ (c .before .before .before .before .before .before .before .before .before .before .test-sized .ensures .0) (c .before .before .before .before .before .before .before .before .if1 .left) (c .before .before .before .before .before .before .before .if2 .left) _ (c .before .before .before .usual .ensures) _ (c .before .check-constraint .ensures)
+returns-3 c =
+    let p₁ = c .before in
+    let p₂ = p₁ .before .before in
+    let p₃ = p₂ .before .before .before .before in
+    let p₄ = p₃ .before in
+    let p₅ = p₄ .before .before in
+    check-done _ _ _ _ (p₅ .test-sized .ensures .0) (p₄ .if1 .left) (p₃ .if2 .left) _ (p₂ .usual .ensures) _ (p₁ .check-constraint .ensures)
 
 check-constraint-requires-2 : tie.Need-check-constraint-requires-2
 check-constraint-requires-2 c κs =
-    let s = c .before .before .before .before .before .before .before .before .before .before .before .before .before in
-    (last-ready (now (s .args .nodes)) (now (s .args .constraints)) (now (s .args .point)) _ (c .before .before .before .before .before .before .before .before .test-sized .ensures .0) (c .before .before .before .before .before .before .if1 .left) _ _ refl (c .before .before .before .before .before .before .before .before .test-sized .ensures .1 .0), lent _ _ _ (c .before .before .before .before .before .if2 .left) refl)
+    let p₁ = c .before .before .before .before .before in
+    let p₂ = p₁ .before in
+    let p₃ = p₂ .before .before in
+    let p₄ = p₃ .before .before .before .before .before in
+    let s = p₄ in
+    (last-ready (now (s .args .nodes)) (now (s .args .constraints)) (now (s .args .point)) _ (p₃ .test-sized .ensures .0) (p₂ .if1 .left) _ _ refl (p₃ .test-sized .ensures .1 .0), lent _ _ _ (p₁ .if2 .left) refl)
 
 returns-4 : tie.Need-returns-4
-returns-4 c = check-done _ _ _ _ (c .before .before .before .before .before .before .before .before .before .before .test-sized .ensures .0) (c .before .before .before .before .before .before .before .before .if1 .left) (c .before .before .before .before .before .before .before .if2 .left) _ (c .before .before .before .usual2 .ensures) _ (c .before .check-constraint2 .ensures)
+returns-4 c =
+    let p₁ = c .before in
+    let p₂ = p₁ .before .before in
+    let p₃ = p₂ .before .before .before .before in
+    let p₄ = p₃ .before in
+    let p₅ = p₄ .before .before in
+    check-done _ _ _ _ (p₅ .test-sized .ensures .0) (p₄ .if1 .left) (p₃ .if2 .left) _ (p₂ .usual2 .ensures) _ (p₁ .check-constraint2 .ensures)
 
 pub check-constraint-spec : {M : Type 1} → statement M
 check-constraint-spec =

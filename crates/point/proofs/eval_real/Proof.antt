@@ -15,10 +15,20 @@ eval-usual-requires c κs =
     (eval-valid _ _ _ _ (t .eval-tested .ensures .0) (c .if1 .left), t .eval-tested .ensures .1 (c .if1 .left))
 
 returns-2 : tie.Need-returns-2
-returns-2 c = eval-answered _ _ _ _ (c .before .before .before .before .before .before .eval-tested .ensures .0) (c .before .before .before .before .if1 .left) (Evaluated.Value _) (sym (c .before .v .given .1) ∙ c .before .before .before .eval-usual .ensures)
+returns-2 c =
+    let p₁ = c .before in
+    let p₂ = p₁ .before .before in
+    let p₃ = p₂ .before in
+    let p₄ = p₃ .before .before in
+    eval-answered _ _ _ _ (p₄ .eval-tested .ensures .0) (p₃ .if1 .left) (Evaluated.Value _) (sym (p₁ .v .given .1) ∙ p₂ .eval-usual .ensures)
 
 returns-3 : tie.Need-returns-3
-returns-3 c = eval-answered _ _ _ _ (c .before .before .before .before .before .before .eval-tested .ensures .0) (c .before .before .before .before .if1 .left) (Evaluated.Failed _) (sym (c .before .e .given .1) ∙ c .before .before .before .eval-usual .ensures)
+returns-3 c =
+    let p₁ = c .before in
+    let p₂ = p₁ .before .before in
+    let p₃ = p₂ .before in
+    let p₄ = p₃ .before .before in
+    eval-answered _ _ _ _ (p₄ .eval-tested .ensures .0) (p₃ .if1 .left) (Evaluated.Failed _) (sym (p₁ .e .given .1) ∙ p₂ .eval-usual .ensures)
 
 pub eval-real-spec : {M : Type 1} → statement M
 eval-real-spec =

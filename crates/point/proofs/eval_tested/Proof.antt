@@ -19,7 +19,12 @@ returns-4 : tie.Need-returns-4
 returns-4 c = (c .refused3 .ensures ∙ too-many _ _ _ (c .before .before .before .before .before .before .if1 .left) (sym (c .before .before .before .before .before .test-sizes .ensures .0) ∙ c .before .before .before .if2 .left) (c .before .before .if3 .left) (c .before .if4 .taken), λ z. absurd (omega (arith, c .refused3 .ensures)))
 
 returns-5 : tie.Need-returns-5
-returns-5 c = (c .before .before .if2 .left ∙ none-refused _ _ _ (c .before .before .before .before .before .if1 .left) (sym (c .before .before .before .before .test-sizes .ensures .0) ∙ c .before .before .if2 .left) (c .before .if3 .left) (c .if4 .left), λ z. c .before .before .before .before .test-sizes .ensures .1 z _ (c .before .if3 .left))
+returns-5 c =
+    let p₁ = c .before in
+    let p₂ = p₁ .before in
+    let p₃ = p₂ .before .before in
+    let p₄ = p₃ .before in
+    (p₂ .if2 .left ∙ none-refused _ _ _ (p₄ .if1 .left) (sym (p₃ .test-sizes .ensures .0) ∙ p₂ .if2 .left) (p₁ .if3 .left) (c .if4 .left), λ z. p₃ .test-sizes .ensures .1 z _ (p₁ .if3 .left))
 
 pub eval-tested-spec : {M : Type 1} → statement M
 eval-tested-spec =

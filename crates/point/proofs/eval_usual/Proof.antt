@@ -15,16 +15,24 @@ eval-real-requires c κs = (c .before .before .before .before .before .pre .0, o
 
 returns : tie.Need-returns
 returns c =
-    let a = c .before .before .before .before .before .before .before .args in
-    c .before .eval-real .ensures ∙ ap (λ (σ : Settings). evalReal σ (now (a .point)) (treeAt (now (a .nodes)) (a .k))) (c .before .before .before .usual .ensures)
+    let p₁ = c .before in
+    let p₂ = p₁ .before .before in
+    let s = p₂ .before .before .before .before in
+    let a = s .args in
+    p₁ .eval-real .ensures ∙ ap (λ (σ : Settings). evalReal σ (now (a .point)) (treeAt (now (a .nodes)) (a .k))) (p₂ .usual .ensures)
 
 eval-real-requires-2 : tie.Need-eval-real-requires-2
-eval-real-requires-2 c κs = (c .before .before .before .before .before .pre .0, room _ _ (c .before .before .before .before .before .pre .0))
+eval-real-requires-2 c κs =
+    let s = c .before .before .before .before .before in
+    (s .pre .0, room _ _ (s .pre .0))
 
 returns-2 : tie.Need-returns-2
 returns-2 c =
-    let a = c .before .before .before .before .before .before .before .args in
-    c .before .eval-real2 .ensures ∙ ap (λ (σ : Settings). evalReal σ (now (a .point)) (treeAt (now (a .nodes)) (a .k))) (c .before .before .before .usual2 .ensures)
+    let p₁ = c .before in
+    let p₂ = p₁ .before .before in
+    let s = p₂ .before .before .before .before in
+    let a = s .args in
+    p₁ .eval-real2 .ensures ∙ ap (λ (σ : Settings). evalReal σ (now (a .point)) (treeAt (now (a .nodes)) (a .k))) (p₂ .usual2 .ensures)
 
 pub eval-usual-spec : {M : Type 1} → statement M
 eval-usual-spec =

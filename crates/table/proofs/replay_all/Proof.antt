@@ -28,7 +28,10 @@ loop-less : tie.Need-loop-less Inv-loop μ-loop
 loop-less c = omega arith
 
 loop-again : tie.Need-loop-again Inv-loop μ-loop
-loop-again c = (c .before .before .before .before .before .next-case .kept .0 ∙ c .before .before .before .before .before .before .before .before .before .before .loop .inv .0, c .before .before .before .before .before .next-case .kept .1 .0 ∙ c .before .before .before .before .before .before .before .before .before .before .loop .inv .1)
+loop-again c =
+    let p₁ = c .before .before .before .before .before in
+    let p₂ = p₁ .before .before .before .before .before in
+    (p₁ .next-case .kept .0 ∙ p₂ .loop .inv .0, p₁ .next-case .kept .1 .0 ∙ p₂ .loop .inv .1)
 
 same-length : tie.Need-same-length Inv-loop μ-loop
 same-length c = c .before .before .loop .inv .0

@@ -71,10 +71,14 @@ fingerprint-returns-3 t c =
 fingerprint-returns-4 : (t : ℕ) → fingerprint-lts.Need-returns-4 (fingerprint-calls t) (fingerprint-at t) reads.Post
 unfolding fingerprint
 fingerprint-returns-4 t c =
-    let at5 = c .before .before .before .before .before in
+    let p₁ = c .before in
+    let p₂ = p₁ .before in
+    let p₃ = p₂ .before in
+    let p₄ = p₃ .before .before in
+    let at5 = p₄ in
     let at9 = at5 .before .before .before .before in
     c .mix5 .ensures
-    ∙ simp (c .before .before .mix4 .ensures, c .before .before .before .fingerprint .ensures, c .before .fingerprint2 .ensures, tree-is _ _ (at9 .pre .1) _ _ (sym (at5 .before .before .node-in .ensures) ∙ at5 .l .given .1))
+    ∙ simp (p₂ .mix4 .ensures, p₃ .fingerprint .ensures, p₁ .fingerprint2 .ensures, tree-is _ _ (at9 .pre .1) _ _ (sym (at5 .before .before .node-in .ensures) ∙ at5 .l .given .1))
 
 pub +fingerprint-spec : {M : Type 1} → statement M
 +fingerprint-spec = close μ-fingerprint λ t. fingerprint-lts.spec (fingerprint-calls t) (fingerprint-at t) reads.Post

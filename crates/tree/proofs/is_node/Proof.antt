@@ -11,7 +11,16 @@ use Rattle.tree.proofs.is_node.Tie as tie
 
 returns : tie.Need-returns
 unfolding f64At
-returns c = node-is _ _ _ _ _ _ _ (c .before .before .before .before .before .before .before .before .read-u32 .ensures) (c .before .before .before .before .before .before .before .read-u322 .ensures) (c .before .before .before .before .before .before .read-u323 .ensures) (c .before .before .before .before .before .read-u324 .ensures) (c .before .before .before .is-finite .ensures ∙ ap (λ (x : ℕ). finite (ofBits binary64 x)) (c .before .before .before .before .read-u64 .ensures)) (c .before .left-end .ensures) (c .before .before .right-end .ensures) (c .choose .ensures)
+returns c =
+    let p₁ = c .before in
+    let p₂ = p₁ .before in
+    let p₃ = p₂ .before in
+    let p₄ = p₃ .before in
+    let p₅ = p₄ .before in
+    let p₆ = p₅ .before in
+    let p₇ = p₆ .before in
+    let p₈ = p₇ .before in
+    node-is _ _ _ _ _ _ _ (p₈ .read-u32 .ensures) (p₇ .read-u322 .ensures) (p₆ .read-u323 .ensures) (p₅ .read-u324 .ensures) (p₃ .is-finite .ensures ∙ ap (λ (x : ℕ). finite (ofBits binary64 x)) (p₄ .read-u64 .ensures)) (p₁ .left-end .ensures) (p₂ .right-end .ensures) (c .choose .ensures)
 
 pub is-node-spec : {M : Type 1} → statement M
 is-node-spec =

@@ -13,11 +13,18 @@ returns c = (no-fit _ _ (sym (c .before .nodes-fit .ensures) ∙ not-true _ (c .
 
 test-in-requires : tie.Need-test-in-requires
 test-in-requires c κs =
-    let w = fit-parts _ _ (sym (c .before .before .before .before .nodes-fit .ensures) ∙ not-false _ (c .before .before .before .if1 .left)) in
-    (w .0, w .1, c .before .before .if2 .taken, c .before .before .if2 .taken)
+    let p₁ = c .before .before in
+    let p₂ = p₁ .before in
+    let p₃ = p₂ .before in
+    let w = fit-parts _ _ (sym (p₃ .nodes-fit .ensures) ∙ not-false _ (p₂ .if1 .left)) in
+    (w .0, w .1, p₁ .if2 .taken, p₁ .if2 .taken)
 
 returns-2 : tie.Need-returns-2
-returns-2 c = (c .before .before .test-in .ensures .0 ∙ fitting _ _ (sym (c .before .before .before .before .before .before .before .nodes-fit .ensures) ∙ not-false _ (c .before .before .before .before .before .before .if1 .left)), c .before .before .test-in .ensures .1)
+returns-2 c =
+    let p₁ = c .before .before in
+    let p₂ = p₁ .before .before .before .before in
+    let p₃ = p₂ .before in
+    (p₁ .test-in .ensures .0 ∙ fitting _ _ (sym (p₃ .nodes-fit .ensures) ∙ not-false _ (p₂ .if1 .left)), p₁ .test-in .ensures .1)
 
 test-in-requires-2 : tie.Need-test-in-requires-2
 test-in-requires-2 c κs =
@@ -25,7 +32,11 @@ test-in-requires-2 c κs =
     (w .0, w .1, w .0, w .0)
 
 returns-3 : tie.Need-returns-3
-returns-3 c = (c .before .before .test-in2 .ensures .0 ∙ fitting _ _ (sym (c .before .before .before .before .before .before .before .nodes-fit .ensures) ∙ not-false _ (c .before .before .before .before .before .before .if1 .left)), c .before .before .test-in2 .ensures .1)
+returns-3 c =
+    let p₁ = c .before .before in
+    let p₂ = p₁ .before .before .before .before in
+    let p₃ = p₂ .before in
+    (p₁ .test-in2 .ensures .0 ∙ fitting _ _ (sym (p₃ .nodes-fit .ensures) ∙ not-false _ (p₂ .if1 .left)), p₁ .test-in2 .ensures .1)
 
 pub test-sizes-spec : {M : Type 1} → statement M
 test-sizes-spec =

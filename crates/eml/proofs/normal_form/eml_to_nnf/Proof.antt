@@ -20,8 +20,11 @@ same-length c = search needs
 
 returns : tie.Need-returns
 returns c =
-    let s = c .before .before .before .before .before .before .before .before .before .before in
-    rw (c .nnf-number .ensures, c .before .records-or .ensures) (ap (λ (x : Outcome). normalising x (s .args .records .now)) (c .before .before .before .before .before .to-nnf-given .ensures))
+    let p₁ = c .before in
+    let p₂ = p₁ .before .before .before .before in
+    let p₃ = p₂ .before .before .before .before .before in
+    let s = p₃ in
+    rw (c .nnf-number .ensures, p₁ .records-or .ensures) (ap (λ (x : Outcome). normalising x (s .args .records .now)) (p₂ .to-nnf-given .ensures))
 
 pub eml-to-nnf-spec : {M : Type 1} → statement M
 eml-to-nnf-spec =

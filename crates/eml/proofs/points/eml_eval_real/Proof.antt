@@ -22,7 +22,13 @@ eval-number-requires : tie.Need-eval-number-requires
 eval-number-requires c κs = search needs
 
 returns : tie.Need-returns
-returns c = rw (c .eval-number .ensures, c .before .count-or .ensures, c .before .before .before .index-or .ensures, c .before .before .before .before .before .value-or .ensures, c .before .before .before .before .before .before .kind-or .ensures, c .before .before .before .before .before .before .before .before .eval-real .ensures)
+returns c =
+    let p₁ = c .before in
+    let p₂ = p₁ .before .before in
+    let p₃ = p₂ .before .before in
+    let p₄ = p₃ .before in
+    let p₅ = p₄ .before .before in
+    rw (c .eval-number .ensures, p₁ .count-or .ensures, p₂ .index-or .ensures, p₃ .value-or .ensures, p₄ .kind-or .ensures, p₅ .eval-real .ensures)
 
 pub eml-eval-real-spec : {M : Type 1} → statement M
 eml-eval-real-spec =

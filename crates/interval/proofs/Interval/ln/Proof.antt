@@ -15,12 +15,22 @@ returns c = simp (sym (c .before .before .has-ln .ensures) ∙ not-true _ (c .be
 
 returns-2 : tie.Need-returns-2
 returns-2 c =
-    let f = c .before .before .before .struct-known .given in
-    c .point .ensures ∙ point-ln _ (f .0) (f .1 .0) (c .before .before .if2 .taken) _ (sym (c .before .before .before .before .before .has-ln .ensures) ∙ not-false _ (c .before .before .before .before .if1 .left)) (c .before .ln-at .ensures)
+    let p₁ = c .before in
+    let p₂ = p₁ .before in
+    let p₃ = p₂ .before in
+    let p₄ = p₃ .before in
+    let p₅ = p₄ .before in
+    let f = p₃ .struct-known .given in
+    c .point .ensures ∙ point-ln _ (f .0) (f .1 .0) (p₂ .if2 .taken) _ (sym (p₅ .has-ln .ensures) ∙ not-false _ (p₄ .if1 .left)) (p₁ .ln-at .ensures)
 
 returns-3 : tie.Need-returns-3
 unfolding ln if_then_else_
-returns-3 c = simp (sym (c .before .before .before .before .before .before .has-ln .ensures) ∙ not-false _ (c .before .before .before .before .before .if1 .left), c .new2 .ensures, c .before .ln2 .ensures, c .before .before .ln .ensures)
+returns-3 c =
+    let p₁ = c .before in
+    let p₂ = p₁ .before in
+    let p₃ = p₂ .before .before .before in
+    let p₄ = p₃ .before in
+    simp (sym (p₄ .has-ln .ensures) ∙ not-false _ (p₃ .if1 .left), c .new2 .ensures, p₁ .ln2 .ensures, p₂ .ln .ensures)
 
 pub ln-spec : {M : Type 1} → statement M
 ln-spec =

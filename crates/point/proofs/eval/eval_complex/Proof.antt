@@ -32,7 +32,10 @@ same-length : tie.Need-same-length
 same-length c = search needs
 
 returns : tie.Need-returns
-returns c = c .before .before .run .ensures ∙ answers _ _ _ _ (c .before .before .before .before .before .before .before .before .before .flatten-postorder .ensures .holds)
+returns c =
+    let p₁ = c .before .before in
+    let p₂ = p₁ .before .before .before .before .before .before .before in
+    p₁ .run .ensures ∙ answers _ _ _ _ (p₂ .flatten-postorder .ensures .holds)
 
 slice-aggregate-run-3 : tie.Need-slice-aggregate-run-3
 slice-aggregate-run-3 c = search needs
@@ -55,7 +58,10 @@ same-length-2 : tie.Need-same-length-2
 same-length-2 c = search needs
 
 returns-2 : tie.Need-returns-2
-returns-2 c = c .before .before .run2 .ensures ∙ answers _ _ _ _ (c .before .before .before .before .before .before .before .before .before .flatten-postorder .ensures .holds)
+returns-2 c =
+    let p₁ = c .before .before in
+    let p₂ = p₁ .before .before .before .before .before .before .before in
+    p₁ .run2 .ensures ∙ answers _ _ _ _ (p₂ .flatten-postorder .ensures .holds)
 
 pub eval-complex-spec : {M : Type 1} → statement M
 eval-complex-spec =

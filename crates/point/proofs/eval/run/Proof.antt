@@ -119,10 +119,17 @@ same-length : tie.Need-same-length Inv-loop μ-loop
 same-length c = c .before .before .before .before .before .before .before .before .loop .inv .1 .long-re
 
 same-length-2 : tie.Need-same-length-2 Inv-loop μ-loop
-same-length-2 c = c .before .before .before .before .before .before .before .before .loop .inv .1 .long-im ∙ sym (c .before .before .before .before .before .before .before .before .before .before .before .before .before .before .pre .same)
+same-length-2 c =
+    let p₁ = c .before .before .before .before .before .before .before .before in
+    let s = p₁ .before .before .before .before .before .before in
+    p₁ .loop .inv .1 .long-im ∙ sym (s .pre .same)
 
 returns : tie.Need-returns Inv-loop μ-loop
-returns c = var-stop (c .before .before .before .before .before .before .before .before .loop .inv .1) (told (c .before .before .before .before) _ (c .before .before .i .given .1)) (c .if1 .taken)
+returns c =
+    let p₁ = c .before .before in
+    let p₂ = p₁ .before .before in
+    let p₃ = p₂ .before .before .before .before in
+    var-stop (p₃ .loop .inv .1) (told p₂ _ (p₁ .i .given .1)) (c .if1 .taken)
 
 mul-re-3 : tie.Need-mul-re-3 Inv-loop μ-loop
 mul-re-3 c = search needs
@@ -209,10 +216,21 @@ same-length-3 : tie.Need-same-length-3 Inv-loop μ-loop
 same-length-3 c = c .before .before .before .before .before .before .before .before .before .before .before .before .before .before .before .loop .inv .1 .long-re
 
 same-length-4 : tie.Need-same-length-4 Inv-loop μ-loop
-same-length-4 c = c .before .before .before .before .before .before .before .before .before .before .before .before .before .before .before .loop .inv .1 .long-im ∙ sym (c .before .before .before .before .before .before .before .before .before .before .before .before .before .before .before .before .before .before .before .before .before .pre .same)
+same-length-4 c =
+    let p₁ = c .before .before .before .before .before .before .before .before .before .before .before .before .before .before .before in
+    let s = p₁ .before .before .before .before .before .before in
+    p₁ .loop .inv .1 .long-im ∙ sym (s .pre .same)
 
 returns-2 : tie.Need-returns-2 Inv-loop μ-loop
-returns-2 c = eml-stop (c .before .before .before .before .before .before .before .before .before .before .before .before .before .before .before .loop .inv .1) (told (c .before .before .before .before .before .before .before .before .before .before .before) _ (c .before .before .before .before .before .before .before .before .before .enum-told2 .given .1)) (c .before .before .eml-complex .ensures ∙ ap₂ (emlComplex _) (c .before .before .before .complex2 .ensures) (c .before .before .before .before .before .before .complex .ensures)) (c .before .match2 .keys2)
+returns-2 c =
+    let p₁ = c .before in
+    let p₂ = p₁ .before in
+    let p₃ = p₂ .before in
+    let p₄ = p₃ .before .before .before in
+    let p₅ = p₄ .before .before .before in
+    let p₆ = p₅ .before .before in
+    let p₇ = p₆ .before .before .before .before in
+    eml-stop (p₇ .loop .inv .1) (told p₆ _ (p₅ .enum-told2 .given .1)) (p₂ .eml-complex .ensures ∙ ap₂ (emlComplex _) (p₃ .complex2 .ensures) (p₄ .complex .ensures)) (p₁ .match2 .keys2)
 
 sub-re : tie.Need-sub-re Inv-loop μ-loop
 sub-re c = omega (arith, two-there (c .before .before .before .before .before .before .before .before .before .before))
@@ -254,10 +272,17 @@ same-length-5 : tie.Need-same-length-5 Inv-loop μ-loop
 same-length-5 c = c .before .before .before .before .loop .inv .1 .long-re
 
 same-length-6 : tie.Need-same-length-6 Inv-loop μ-loop
-same-length-6 c = c .before .before .before .before .loop .inv .1 .long-im ∙ sym (c .before .before .before .before .before .before .before .before .before .before .pre .same)
+same-length-6 c =
+    let p₁ = c .before .before .before .before in
+    let s = p₁ .before .before .before .before .before .before in
+    p₁ .loop .inv .1 .long-im ∙ sym (s .pre .same)
 
 returns-3 : tie.Need-returns-3 Inv-loop μ-loop
-returns-3 c = ap EvaluatedComplex.Value (c .complex3 .ensures) ∙ (ended (c .before .before .before .before .loop .inv .1) (done _ _ _ (c .before .before .before .before .before .before .before .before .before .before .pre .within) _ (c .before .before .before .loop-test .left) (c .before .before .before .before .loop .inv .0))) .1
+returns-3 c =
+    let p₁ = c .before .before .before in
+    let p₂ = p₁ .before in
+    let s = p₂ .before .before .before .before .before .before in
+    ap EvaluatedComplex.Value (c .complex3 .ensures) ∙ (ended (p₂ .loop .inv .1) (done _ _ _ (s .pre .within) _ (p₁ .loop-test .left) (p₂ .loop .inv .0))) .1
 
 pub run-spec : {M : Type 1} → statement M
 run-spec =

@@ -162,7 +162,11 @@ check-all-same-length : (t : ℕ) → check-all-lts.Need-same-length (check-all-
 check-all-same-length t c = search needs
 
 check-all-returns-2 : (t : ℕ) → check-all-lts.Need-returns-2 (check-all-calls t) (check-all-at t) check-all.Post
-check-all-returns-2 t c = let s = c .before .before .before .before .before .before .before .before .before .before .before in all-stops _ _ _ _ _ _ _ (s .pre .1 .0) (c .before .before .before .before .before .before .if1 .left) _ refl _ (c .before .before .before .check-all .ensures) (c .if2 .taken)
+check-all-returns-2 t c =
+    let p₁ = c .before .before .before in
+    let p₂ = p₁ .before .before .before in
+    let p₃ = p₂ .before .before .before .before .before in
+    let s = p₃ in all-stops _ _ _ _ _ _ _ (s .pre .1 .0) (p₂ .if1 .left) _ refl _ (p₁ .check-all .ensures) (c .if2 .taken)
 
 check-all-check-constraint-requires : (t : ℕ) → check-all-lts.Need-check-constraint-requires (check-all-calls t) (check-all-at t) check-all.Post
 check-all-check-constraint-requires t c κs =
@@ -174,7 +178,13 @@ check-all-same-length-2 : (t : ℕ) → check-all-lts.Need-same-length-2 (check-
 check-all-same-length-2 t c = search needs
 
 check-all-returns-3 : (t : ℕ) → check-all-lts.Need-returns-3 (check-all-calls t) (check-all-at t) check-all.Post
-check-all-returns-3 t c = let s = c .before .before .before .before .before .before .before .before .before .before .before .before .before .before .before in all-goes-on _ _ _ _ _ _ _ (s .pre .1 .0) (c .before .before .before .before .before .before .before .before .before .before .if1 .left) _ refl _ _ (c .before .before .before .before .before .before .before .check-all .ensures) (c .before .before .before .before .if2 .left) (c .before .before .check-constraint .ensures)
+check-all-returns-3 t c =
+    let p₁ = c .before .before in
+    let p₂ = p₁ .before .before in
+    let p₃ = p₂ .before .before .before in
+    let p₄ = p₃ .before .before .before in
+    let p₅ = p₄ .before .before .before .before .before in
+    let s = p₅ in all-goes-on _ _ _ _ _ _ _ (s .pre .1 .0) (p₄ .if1 .left) _ refl _ _ (p₃ .check-all .ensures) (p₂ .if2 .left) (p₁ .check-constraint .ensures)
 
 check-any-returns : (t : ℕ) → check-any-lts.Need-returns (check-any-calls t) (check-any-at t) check-any.Post
 check-any-returns t c = let s = c .before .before .before .before .before in any-of-none _ _ _ _ _ _ _ (s .pre .1 .0) (c .if1 .taken)
@@ -201,7 +211,11 @@ check-any-same-length : (t : ℕ) → check-any-lts.Need-same-length (check-any-
 check-any-same-length t c = search needs
 
 check-any-returns-2 : (t : ℕ) → check-any-lts.Need-returns-2 (check-any-calls t) (check-any-at t) check-any.Post
-check-any-returns-2 t c = let s = c .before .before .before .before .before .before .before .before .before .before .before in any-stops _ _ _ _ _ _ _ (s .pre .1 .0) (c .before .before .before .before .before .before .if1 .left) _ refl _ (c .before .before .before .check-any .ensures) (c .if2 .taken)
+check-any-returns-2 t c =
+    let p₁ = c .before .before .before in
+    let p₂ = p₁ .before .before .before in
+    let p₃ = p₂ .before .before .before .before .before in
+    let s = p₃ in any-stops _ _ _ _ _ _ _ (s .pre .1 .0) (p₂ .if1 .left) _ refl _ (p₁ .check-any .ensures) (c .if2 .taken)
 
 check-any-check-constraint-requires : (t : ℕ) → check-any-lts.Need-check-constraint-requires (check-any-calls t) (check-any-at t) check-any.Post
 check-any-check-constraint-requires t c κs =
@@ -213,7 +227,13 @@ check-any-same-length-2 : (t : ℕ) → check-any-lts.Need-same-length-2 (check-
 check-any-same-length-2 t c = search needs
 
 check-any-returns-3 : (t : ℕ) → check-any-lts.Need-returns-3 (check-any-calls t) (check-any-at t) check-any.Post
-check-any-returns-3 t c = let s = c .before .before .before .before .before .before .before .before .before .before .before .before .before .before .before in any-goes-on _ _ _ _ _ _ _ (s .pre .1 .0) (c .before .before .before .before .before .before .before .before .before .before .if1 .left) _ refl _ _ (c .before .before .before .before .before .before .before .check-any .ensures) (c .before .before .before .before .if2 .left) (c .before .before .check-constraint .ensures)
+check-any-returns-3 t c =
+    let p₁ = c .before .before in
+    let p₂ = p₁ .before .before in
+    let p₃ = p₂ .before .before .before in
+    let p₄ = p₃ .before .before .before in
+    let p₅ = p₄ .before .before .before .before .before in
+    let s = p₅ in any-goes-on _ _ _ _ _ _ _ (s .pre .1 .0) (p₄ .if1 .left) _ refl _ _ (p₃ .check-any .ensures) (p₂ .if2 .left) (p₁ .check-constraint .ensures)
 
 check-at-sampled-requires : (t : ℕ) → check-at-lts.Need-sampled-requires (check-at-calls t) (check-at-at t) check-at.Post
 check-at-sampled-requires t c κs = c .before .before .before .before .pre .1 .1 .few
@@ -234,8 +254,11 @@ check-at-same-length t c = search needs
 
 check-at-returns : (t : ℕ) → check-at-lts.Need-returns (check-at-calls t) (check-at-at t) check-at.Post
 check-at-returns t c =
-    let s = c .before .before .before .before .before .before .before .before .before .before in
-    c .before .before .check-constraint .ensures ∙ ap (λ (p : List Float). check (s .args .settings) p (constraintAt (now (s .args .nodes)) (now (s .args .constraints)) (s .args .k))) (c .before .before .before .before .before .sampled .ensures)
+    let p₁ = c .before .before in
+    let p₂ = p₁ .before .before .before in
+    let p₃ = p₂ .before .before .before .before .before in
+    let s = p₃ in
+    p₁ .check-constraint .ensures ∙ ap (λ (p : List Float). check (s .args .settings) p (constraintAt (now (s .args .nodes)) (now (s .args .constraints)) (s .args .k))) (p₂ .sampled .ensures)
 
 check-constraint-record-in-requires : (t : ℕ) → check-constraint-lts.Need-record-in-requires (check-constraint-calls t) (check-constraint-at t) check-constraint.Post
 check-constraint-record-in-requires t c κs = let s = c .before .before .before .before in record-there _ _ (s .args .k) _ (s .pre .1 .0)
@@ -244,7 +267,11 @@ check-constraint-enum-known-relation : (t : ℕ) → check-constraint-lts.Need-e
 check-constraint-enum-known-relation t c = search needs
 
 check-constraint-check-atom-requires : (t : ℕ) → check-constraint-lts.Need-check-atom-requires (check-constraint-calls t) (check-constraint-at t) check-constraint.Post
-check-constraint-check-atom-requires t c κs = let s = c .before .before .before .before .before .before .before .before .before in let a = atom-node _ _ _ _ (s .pre .1 .0) _ _ (sym (c .before .before .before .before .record-in .ensures) ∙ c .before .before .relation .given .1) in (a, s .pre .1 .1 .long _ a)
+check-constraint-check-atom-requires t c κs =
+    let p₁ = c .before .before in
+    let p₂ = p₁ .before .before in
+    let p₃ = p₂ .before .before .before .before .before in
+    let s = p₃ in let a = atom-node _ _ _ _ (s .pre .1 .0) _ _ (sym (p₂ .record-in .ensures) ∙ p₁ .relation .given .1) in (a, s .pre .1 .1 .long _ a)
 
 check-constraint-enum-told : (t : ℕ) → check-constraint-lts.Need-enum-told (check-constraint-calls t) (check-constraint-at t) check-constraint.Post
 check-constraint-enum-told t c = search needs
@@ -274,7 +301,11 @@ check-constraint-enum-known-v : (t : ℕ) → check-constraint-lts.Need-enum-kno
 check-constraint-enum-known-v t c = search needs
 
 check-constraint-sub-check-for-all : (t : ℕ) → check-constraint-lts.Need-sub-check-for-all (check-constraint-calls t) (check-constraint-at t) check-constraint.Post
-check-constraint-sub-check-for-all t c = let s = c .before .before .before .before .before .before .before .before in inside _ _ _ _ (s .pre .1 .0) _ (sym (c .before .before .before .record-in .ensures) ∙ c .before .v .given .1) refl .0
+check-constraint-sub-check-for-all t c =
+    let p₁ = c .before in
+    let p₂ = p₁ .before .before in
+    let p₃ = p₂ .before .before .before .before .before in
+    let s = p₃ in inside _ _ _ _ (s .pre .1 .0) _ (sym (p₂ .record-in .ensures) ∙ p₁ .v .given .1) refl .0
 
 check-constraint-check-for-all-requires : (t : ℕ) → check-constraint-lts.Need-check-for-all-requires (check-constraint-calls t) (check-constraint-at t) check-constraint.Post
 check-constraint-check-for-all-requires t c κs =
@@ -286,7 +317,11 @@ check-constraint-enum-known-v-2 : (t : ℕ) → check-constraint-lts.Need-enum-k
 check-constraint-enum-known-v-2 t c = search needs
 
 check-constraint-sub-check-exists : (t : ℕ) → check-constraint-lts.Need-sub-check-exists (check-constraint-calls t) (check-constraint-at t) check-constraint.Post
-check-constraint-sub-check-exists t c = let s = c .before .before .before .before .before .before .before .before in inside _ _ _ _ (s .pre .1 .0) _ (sym (c .before .before .before .record-in .ensures) ∙ c .before .v2 .given .1) refl .0
+check-constraint-sub-check-exists t c =
+    let p₁ = c .before in
+    let p₂ = p₁ .before .before in
+    let p₃ = p₂ .before .before .before .before .before in
+    let s = p₃ in inside _ _ _ _ (s .pre .1 .0) _ (sym (p₂ .record-in .ensures) ∙ p₁ .v2 .given .1) refl .0
 
 check-constraint-check-exists-requires : (t : ℕ) → check-constraint-lts.Need-check-exists-requires (check-constraint-calls t) (check-constraint-at t) check-constraint.Post
 check-constraint-check-exists-requires t c κs =
@@ -300,8 +335,12 @@ check-constraint-same-length t c = search needs
 check-constraint-returns : (t : ℕ) → check-constraint-lts.Need-returns (check-constraint-calls t) (check-constraint-at t) check-constraint.Post
 unfolding check
 check-constraint-returns t c =
-    let s = c .before .before .before .before .before .before .before .before .before .before .before .before in
-    c .before .before .check-atom .ensures ∙ sym (ap (check (s .args .settings) (now (s .args .point))) (at-atom _ _ _ _ (s .pre .1 .0) _ _ (sym (c .before .before .before .before .before .before .before .record-in .ensures) ∙ c .before .before .before .before .before .relation .given .1)))
+    let p₁ = c .before .before in
+    let p₂ = p₁ .before .before .before in
+    let p₃ = p₂ .before .before in
+    let p₄ = p₃ .before .before .before .before .before in
+    let s = p₄ in
+    p₁ .check-atom .ensures ∙ sym (ap (check (s .args .settings) (now (s .args .point))) (at-atom _ _ _ _ (s .pre .1 .0) _ _ (sym (p₃ .record-in .ensures) ∙ p₂ .relation .given .1)))
 
 check-constraint-same-length-2 : (t : ℕ) → check-constraint-lts.Need-same-length-2 (check-constraint-calls t) (check-constraint-at t) check-constraint.Post
 check-constraint-same-length-2 t c = search needs
@@ -309,8 +348,12 @@ check-constraint-same-length-2 t c = search needs
 check-constraint-returns-2 : (t : ℕ) → check-constraint-lts.Need-returns-2 (check-constraint-calls t) (check-constraint-at t) check-constraint.Post
 unfolding check
 check-constraint-returns-2 t c =
-    let s = c .before .before .before .before .before .before .before .before .before .before .before in
-    ap not (c .before .before .check-constraint .ensures) ∙ sym (ap (check (s .args .settings) (now (s .args .point))) (at-not _ _ _ _ (s .pre .1 .0) (sym (c .before .before .before .before .before .before .record-in .ensures) ∙ c .before .before .before .before .enum-told .given .1)))
+    let p₁ = c .before .before in
+    let p₂ = p₁ .before .before in
+    let p₃ = p₂ .before .before in
+    let p₄ = p₃ .before .before .before .before .before in
+    let s = p₄ in
+    ap not (p₁ .check-constraint .ensures) ∙ sym (ap (check (s .args .settings) (now (s .args .point))) (at-not _ _ _ _ (s .pre .1 .0) (sym (p₃ .record-in .ensures) ∙ p₂ .enum-told .given .1)))
 
 check-constraint-same-length-3 : (t : ℕ) → check-constraint-lts.Need-same-length-3 (check-constraint-calls t) (check-constraint-at t) check-constraint.Post
 check-constraint-same-length-3 t c = search needs
@@ -318,8 +361,12 @@ check-constraint-same-length-3 t c = search needs
 check-constraint-returns-3 : (t : ℕ) → check-constraint-lts.Need-returns-3 (check-constraint-calls t) (check-constraint-at t) check-constraint.Post
 unfolding check
 check-constraint-returns-3 t c =
-    let s = c .before .before .before .before .before .before .before .before .before .before .before .before in
-    c .before .before .check-all .ensures ∙ sym (ap (check (s .args .settings) (now (s .args .point))) (at-and _ _ _ _ (s .pre .1 .0) _ (sym (c .before .before .before .before .before .before .before .record-in .ensures) ∙ c .before .before .before .before .before .m .given .1)))
+    let p₁ = c .before .before in
+    let p₂ = p₁ .before .before .before in
+    let p₃ = p₂ .before .before in
+    let p₄ = p₃ .before .before .before .before .before in
+    let s = p₄ in
+    p₁ .check-all .ensures ∙ sym (ap (check (s .args .settings) (now (s .args .point))) (at-and _ _ _ _ (s .pre .1 .0) _ (sym (p₃ .record-in .ensures) ∙ p₂ .m .given .1)))
 
 check-constraint-same-length-4 : (t : ℕ) → check-constraint-lts.Need-same-length-4 (check-constraint-calls t) (check-constraint-at t) check-constraint.Post
 check-constraint-same-length-4 t c = search needs
@@ -327,24 +374,36 @@ check-constraint-same-length-4 t c = search needs
 check-constraint-returns-4 : (t : ℕ) → check-constraint-lts.Need-returns-4 (check-constraint-calls t) (check-constraint-at t) check-constraint.Post
 unfolding check
 check-constraint-returns-4 t c =
-    let s = c .before .before .before .before .before .before .before .before .before .before .before .before in
-    c .before .before .check-any .ensures ∙ sym (ap (check (s .args .settings) (now (s .args .point))) (at-or _ _ _ _ (s .pre .1 .0) _ (sym (c .before .before .before .before .before .before .before .record-in .ensures) ∙ c .before .before .before .before .before .m2 .given .1)))
+    let p₁ = c .before .before in
+    let p₂ = p₁ .before .before .before in
+    let p₃ = p₂ .before .before in
+    let p₄ = p₃ .before .before .before .before .before in
+    let s = p₄ in
+    p₁ .check-any .ensures ∙ sym (ap (check (s .args .settings) (now (s .args .point))) (at-or _ _ _ _ (s .pre .1 .0) _ (sym (p₃ .record-in .ensures) ∙ p₂ .m2 .given .1)))
 
 check-constraint-same-length-5 : (t : ℕ) → check-constraint-lts.Need-same-length-5 (check-constraint-calls t) (check-constraint-at t) check-constraint.Post
 check-constraint-same-length-5 t c = search needs
 
 check-constraint-returns-5 : (t : ℕ) → check-constraint-lts.Need-returns-5 (check-constraint-calls t) (check-constraint-at t) check-constraint.Post
 check-constraint-returns-5 t c =
-    let s = c .before .before .before .before .before .before .before .before .before .before .before .before in
-    c .before .before .check-for-all .ensures ∙ sym (ap (check (s .args .settings) (now (s .args .point))) (at-forall _ _ _ _ (s .pre .1 .0) _ _ _ (sym (c .before .before .before .before .before .before .before .record-in .ensures) ∙ c .before .before .before .before .before .v .given .1)))
+    let p₁ = c .before .before in
+    let p₂ = p₁ .before .before .before in
+    let p₃ = p₂ .before .before in
+    let p₄ = p₃ .before .before .before .before .before in
+    let s = p₄ in
+    p₁ .check-for-all .ensures ∙ sym (ap (check (s .args .settings) (now (s .args .point))) (at-forall _ _ _ _ (s .pre .1 .0) _ _ _ (sym (p₃ .record-in .ensures) ∙ p₂ .v .given .1)))
 
 check-constraint-same-length-6 : (t : ℕ) → check-constraint-lts.Need-same-length-6 (check-constraint-calls t) (check-constraint-at t) check-constraint.Post
 check-constraint-same-length-6 t c = search needs
 
 check-constraint-returns-6 : (t : ℕ) → check-constraint-lts.Need-returns-6 (check-constraint-calls t) (check-constraint-at t) check-constraint.Post
 check-constraint-returns-6 t c =
-    let s = c .before .before .before .before .before .before .before .before .before .before .before .before in
-    c .before .before .check-exists .ensures ∙ sym (ap (check (s .args .settings) (now (s .args .point))) (at-exists _ _ _ _ (s .pre .1 .0) _ _ _ (sym (c .before .before .before .before .before .before .before .record-in .ensures) ∙ c .before .before .before .before .before .v2 .given .1)))
+    let p₁ = c .before .before in
+    let p₂ = p₁ .before .before .before in
+    let p₃ = p₂ .before .before in
+    let p₄ = p₃ .before .before .before .before .before in
+    let s = p₄ in
+    p₁ .check-exists .ensures ∙ sym (ap (check (s .args .settings) (now (s .args .point))) (at-exists _ _ _ _ (s .pre .1 .0) _ _ _ (sym (p₃ .record-in .ensures) ∙ p₂ .v2 .given .1)))
 
 check-exists-check-at-requires : (t : ℕ) → check-exists-lts.Need-check-at-requires (check-exists-calls t) (check-exists-at t) check-exists.Post
 check-exists-check-at-requires t c κs = let s = c .before .before .before .before .before in (omega arith, (s .pre .1 .0, s .pre .1 .1))
@@ -365,7 +424,12 @@ check-exists-same-length-2 : (t : ℕ) → check-exists-lts.Need-same-length-2 (
 check-exists-same-length-2 t c = search needs
 
 check-exists-returns-2 : (t : ℕ) → check-exists-lts.Need-returns-2 (check-exists-calls t) (check-exists-at t) check-exists.Post
-check-exists-returns-2 t c = exists-second _ _ _ _ _ _ _ (c .before .before .before .before .before .before .before .before .before .check-at .ensures) _ (c .before .before .before .before .before .middle .ensures) _ (c .before .before .before .check-at2 .ensures) (c .before .before .before .before .before .before .if1 .left) (c .if2 .taken)
+check-exists-returns-2 t c =
+    let p₁ = c .before .before .before in
+    let p₂ = p₁ .before .before in
+    let p₃ = p₂ .before in
+    let p₄ = p₃ .before .before .before in
+    exists-second _ _ _ _ _ _ _ (p₄ .check-at .ensures) _ (p₂ .middle .ensures) _ (p₁ .check-at2 .ensures) (p₃ .if1 .left) (c .if2 .taken)
 
 check-exists-check-at-requires-3 : (t : ℕ) → check-exists-lts.Need-check-at-requires-3 (check-exists-calls t) (check-exists-at t) check-exists.Post
 check-exists-check-at-requires-3 t c κs = let s = c .before .before .before .before .before .before .before .before .before .before .before .before .before .before .before .before in (omega arith, (s .pre .1 .0, record { few = s .pre .1 .1 .few; long = λ i v. omega (arith, s .pre .1 .1 .long i v, c .before .before .before .before .before .before .before .before .before .before .check-at .kept .1 .1 .1 .1 .1 .1 .1 .1 .0, c .before .before .before .before .check-at2 .kept .1 .1 .1 .1 .1 .1 .1 .1 .0) }))
@@ -374,7 +438,14 @@ check-exists-same-length-3 : (t : ℕ) → check-exists-lts.Need-same-length-3 (
 check-exists-same-length-3 t c = search needs
 
 check-exists-returns-3 : (t : ℕ) → check-exists-lts.Need-returns-3 (check-exists-calls t) (check-exists-at t) check-exists.Post
-check-exists-returns-3 t c = exists-third _ _ _ _ _ _ _ (c .before .before .before .before .before .before .before .before .before .before .before .before .before .check-at .ensures) _ (c .before .before .before .before .before .before .before .before .before .middle .ensures) _ (c .before .before .before .before .before .before .before .check-at2 .ensures) _ (c .before .before .check-at3 .ensures) (c .before .before .before .before .before .before .before .before .before .before .if1 .left) (c .before .before .before .before .if2 .left)
+check-exists-returns-3 t c =
+    let p₁ = c .before .before in
+    let p₂ = p₁ .before .before in
+    let p₃ = p₂ .before .before .before in
+    let p₄ = p₃ .before .before in
+    let p₅ = p₄ .before in
+    let p₆ = p₅ .before .before .before in
+    exists-third _ _ _ _ _ _ _ (p₆ .check-at .ensures) _ (p₄ .middle .ensures) _ (p₃ .check-at2 .ensures) _ (p₁ .check-at3 .ensures) (p₅ .if1 .left) (p₂ .if2 .left)
 
 check-for-all-check-at-requires : (t : ℕ) → check-for-all-lts.Need-check-at-requires (check-for-all-calls t) (check-for-all-at t) check-for-all.Post
 check-for-all-check-at-requires t c κs = let s = c .before .before .before .before .before in (omega arith, (s .pre .1 .0, s .pre .1 .1))
@@ -395,7 +466,12 @@ check-for-all-same-length-2 : (t : ℕ) → check-for-all-lts.Need-same-length-2
 check-for-all-same-length-2 t c = search needs
 
 check-for-all-returns-2 : (t : ℕ) → check-for-all-lts.Need-returns-2 (check-for-all-calls t) (check-for-all-at t) check-for-all.Post
-check-for-all-returns-2 t c = for-all-second _ _ _ _ _ _ _ (c .before .before .before .before .before .before .before .before .before .check-at .ensures) _ (c .before .before .before .before .before .middle .ensures) _ (c .before .before .before .check-at2 .ensures) (c .before .before .before .before .before .before .if1 .left) (c .if2 .taken)
+check-for-all-returns-2 t c =
+    let p₁ = c .before .before .before in
+    let p₂ = p₁ .before .before in
+    let p₃ = p₂ .before in
+    let p₄ = p₃ .before .before .before in
+    for-all-second _ _ _ _ _ _ _ (p₄ .check-at .ensures) _ (p₂ .middle .ensures) _ (p₁ .check-at2 .ensures) (p₃ .if1 .left) (c .if2 .taken)
 
 check-for-all-check-at-requires-3 : (t : ℕ) → check-for-all-lts.Need-check-at-requires-3 (check-for-all-calls t) (check-for-all-at t) check-for-all.Post
 check-for-all-check-at-requires-3 t c κs = let s = c .before .before .before .before .before .before .before .before .before .before .before .before .before .before .before .before in (omega arith, (s .pre .1 .0, record { few = s .pre .1 .1 .few; long = λ i v. omega (arith, s .pre .1 .1 .long i v, c .before .before .before .before .before .before .before .before .before .before .check-at .kept .1 .1 .1 .1 .1 .1 .1 .1 .0, c .before .before .before .before .check-at2 .kept .1 .1 .1 .1 .1 .1 .1 .1 .0) }))
@@ -404,7 +480,14 @@ check-for-all-same-length-3 : (t : ℕ) → check-for-all-lts.Need-same-length-3
 check-for-all-same-length-3 t c = search needs
 
 check-for-all-returns-3 : (t : ℕ) → check-for-all-lts.Need-returns-3 (check-for-all-calls t) (check-for-all-at t) check-for-all.Post
-check-for-all-returns-3 t c = for-all-third _ _ _ _ _ _ _ (c .before .before .before .before .before .before .before .before .before .before .before .before .before .check-at .ensures) _ (c .before .before .before .before .before .before .before .before .before .middle .ensures) _ (c .before .before .before .before .before .before .before .check-at2 .ensures) _ (c .before .before .check-at3 .ensures) (c .before .before .before .before .before .before .before .before .before .before .if1 .left) (c .before .before .before .before .if2 .left)
+check-for-all-returns-3 t c =
+    let p₁ = c .before .before in
+    let p₂ = p₁ .before .before in
+    let p₃ = p₂ .before .before .before in
+    let p₄ = p₃ .before .before in
+    let p₅ = p₄ .before in
+    let p₆ = p₅ .before .before .before in
+    for-all-third _ _ _ _ _ _ _ (p₆ .check-at .ensures) _ (p₄ .middle .ensures) _ (p₃ .check-at2 .ensures) _ (p₁ .check-at3 .ensures) (p₅ .if1 .left) (p₂ .if2 .left)
 
 pub +check-all+check-any+check-at+check-constraint+check-exists+check-for-all-spec :
     {M : Type 1} → statement M

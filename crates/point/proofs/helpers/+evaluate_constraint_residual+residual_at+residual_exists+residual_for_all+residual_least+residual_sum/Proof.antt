@@ -172,7 +172,11 @@ evaluate-constraint-residual-enum-known-relation : (t : ℕ) → evaluate-constr
 evaluate-constraint-residual-enum-known-relation t c = search needs
 
 evaluate-constraint-residual-residual-of-atom-requires : (t : ℕ) → evaluate-constraint-residual-lts.Need-residual-of-atom-requires (evaluate-constraint-residual-calls t) (evaluate-constraint-residual-at t) evaluate-constraint-residual.Post
-evaluate-constraint-residual-residual-of-atom-requires t c κs = let s = c .before .before .before .before .before .before .before .before .before in let a = atom-node _ _ _ _ (s .pre .1 .0) _ _ (sym (c .before .before .before .before .record-in .ensures) ∙ c .before .before .relation .given .1) in (a, s .pre .1 .1 .long _ a)
+evaluate-constraint-residual-residual-of-atom-requires t c κs =
+    let p₁ = c .before .before in
+    let p₂ = p₁ .before .before in
+    let p₃ = p₂ .before .before .before .before .before in
+    let s = p₃ in let a = atom-node _ _ _ _ (s .pre .1 .0) _ _ (sym (p₂ .record-in .ensures) ∙ p₁ .relation .given .1) in (a, s .pre .1 .1 .long _ a)
 
 evaluate-constraint-residual-enum-told : (t : ℕ) → evaluate-constraint-residual-lts.Need-enum-told (evaluate-constraint-residual-calls t) (evaluate-constraint-residual-at t) evaluate-constraint-residual.Post
 evaluate-constraint-residual-enum-told t c = search needs
@@ -202,7 +206,11 @@ evaluate-constraint-residual-enum-known-v : (t : ℕ) → evaluate-constraint-re
 evaluate-constraint-residual-enum-known-v t c = search needs
 
 evaluate-constraint-residual-sub-residual-for-all : (t : ℕ) → evaluate-constraint-residual-lts.Need-sub-residual-for-all (evaluate-constraint-residual-calls t) (evaluate-constraint-residual-at t) evaluate-constraint-residual.Post
-evaluate-constraint-residual-sub-residual-for-all t c = let s = c .before .before .before .before .before .before .before .before in inside _ _ _ _ (s .pre .1 .0) _ (sym (c .before .before .before .record-in .ensures) ∙ c .before .v .given .1) refl .0
+evaluate-constraint-residual-sub-residual-for-all t c =
+    let p₁ = c .before in
+    let p₂ = p₁ .before .before in
+    let p₃ = p₂ .before .before .before .before .before in
+    let s = p₃ in inside _ _ _ _ (s .pre .1 .0) _ (sym (p₂ .record-in .ensures) ∙ p₁ .v .given .1) refl .0
 
 evaluate-constraint-residual-residual-for-all-requires : (t : ℕ) → evaluate-constraint-residual-lts.Need-residual-for-all-requires (evaluate-constraint-residual-calls t) (evaluate-constraint-residual-at t) evaluate-constraint-residual.Post
 evaluate-constraint-residual-residual-for-all-requires t c κs =
@@ -214,7 +222,11 @@ evaluate-constraint-residual-enum-known-v-2 : (t : ℕ) → evaluate-constraint-
 evaluate-constraint-residual-enum-known-v-2 t c = search needs
 
 evaluate-constraint-residual-sub-residual-exists : (t : ℕ) → evaluate-constraint-residual-lts.Need-sub-residual-exists (evaluate-constraint-residual-calls t) (evaluate-constraint-residual-at t) evaluate-constraint-residual.Post
-evaluate-constraint-residual-sub-residual-exists t c = let s = c .before .before .before .before .before .before .before .before in inside _ _ _ _ (s .pre .1 .0) _ (sym (c .before .before .before .record-in .ensures) ∙ c .before .v2 .given .1) refl .0
+evaluate-constraint-residual-sub-residual-exists t c =
+    let p₁ = c .before in
+    let p₂ = p₁ .before .before in
+    let p₃ = p₂ .before .before .before .before .before in
+    let s = p₃ in inside _ _ _ _ (s .pre .1 .0) _ (sym (p₂ .record-in .ensures) ∙ p₁ .v2 .given .1) refl .0
 
 evaluate-constraint-residual-residual-exists-requires : (t : ℕ) → evaluate-constraint-residual-lts.Need-residual-exists-requires (evaluate-constraint-residual-calls t) (evaluate-constraint-residual-at t) evaluate-constraint-residual.Post
 evaluate-constraint-residual-residual-exists-requires t c κs =
@@ -228,24 +240,36 @@ evaluate-constraint-residual-same-length t c = search needs
 evaluate-constraint-residual-returns : (t : ℕ) → evaluate-constraint-residual-lts.Need-returns (evaluate-constraint-residual-calls t) (evaluate-constraint-residual-at t) evaluate-constraint-residual.Post
 unfolding residual
 evaluate-constraint-residual-returns t c =
-    let s = c .before .before .before .before .before .before .before .before .before .before .before .before in
-    c .before .before .residual-of-atom .ensures ∙ sym (ap (residual (s .args .settings) (now (s .args .point))) (at-atom _ _ _ _ (s .pre .1 .0) _ _ (sym (c .before .before .before .before .before .before .before .record-in .ensures) ∙ c .before .before .before .before .before .relation .given .1)))
+    let p₁ = c .before .before in
+    let p₂ = p₁ .before .before .before in
+    let p₃ = p₂ .before .before in
+    let p₄ = p₃ .before .before .before .before .before in
+    let s = p₄ in
+    p₁ .residual-of-atom .ensures ∙ sym (ap (residual (s .args .settings) (now (s .args .point))) (at-atom _ _ _ _ (s .pre .1 .0) _ _ (sym (p₃ .record-in .ensures) ∙ p₂ .relation .given .1)))
 
 evaluate-constraint-residual-same-length-2 : (t : ℕ) → evaluate-constraint-residual-lts.Need-same-length-2 (evaluate-constraint-residual-calls t) (evaluate-constraint-residual-at t) evaluate-constraint-residual.Post
 evaluate-constraint-residual-same-length-2 t c = search needs
 
 evaluate-constraint-residual-returns-2 : (t : ℕ) → evaluate-constraint-residual-lts.Need-returns-2 (evaluate-constraint-residual-calls t) (evaluate-constraint-residual-at t) evaluate-constraint-residual.Post
 evaluate-constraint-residual-returns-2 t c =
-    let s = c .before .before .before .before .before .before .before .before .before .before .before .before in
-    not-met _ _ _ _ (c .before .before .before .evaluate-constraint-residual .ensures) (c .if1 .taken) ∙ sym (ap (residual (s .args .settings) (now (s .args .point))) (at-not _ _ _ _ (s .pre .1 .0) (sym (c .before .before .before .before .before .before .before .record-in .ensures) ∙ c .before .before .before .before .before .enum-told .given .1)))
+    let p₁ = c .before .before .before in
+    let p₂ = p₁ .before .before in
+    let p₃ = p₂ .before .before in
+    let p₄ = p₃ .before .before .before .before .before in
+    let s = p₄ in
+    not-met _ _ _ _ (p₁ .evaluate-constraint-residual .ensures) (c .if1 .taken) ∙ sym (ap (residual (s .args .settings) (now (s .args .point))) (at-not _ _ _ _ (s .pre .1 .0) (sym (p₃ .record-in .ensures) ∙ p₂ .enum-told .given .1)))
 
 evaluate-constraint-residual-same-length-3 : (t : ℕ) → evaluate-constraint-residual-lts.Need-same-length-3 (evaluate-constraint-residual-calls t) (evaluate-constraint-residual-at t) evaluate-constraint-residual.Post
 evaluate-constraint-residual-same-length-3 t c = search needs
 
 evaluate-constraint-residual-returns-3 : (t : ℕ) → evaluate-constraint-residual-lts.Need-returns-3 (evaluate-constraint-residual-calls t) (evaluate-constraint-residual-at t) evaluate-constraint-residual.Post
 evaluate-constraint-residual-returns-3 t c =
-    let s = c .before .before .before .before .before .before .before .before .before .before .before .before in
-    not-missed _ _ _ _ (c .before .before .before .evaluate-constraint-residual .ensures) (c .if1 .left) ∙ sym (ap (residual (s .args .settings) (now (s .args .point))) (at-not _ _ _ _ (s .pre .1 .0) (sym (c .before .before .before .before .before .before .before .record-in .ensures) ∙ c .before .before .before .before .before .enum-told .given .1)))
+    let p₁ = c .before .before .before in
+    let p₂ = p₁ .before .before in
+    let p₃ = p₂ .before .before in
+    let p₄ = p₃ .before .before .before .before .before in
+    let s = p₄ in
+    not-missed _ _ _ _ (p₁ .evaluate-constraint-residual .ensures) (c .if1 .left) ∙ sym (ap (residual (s .args .settings) (now (s .args .point))) (at-not _ _ _ _ (s .pre .1 .0) (sym (p₃ .record-in .ensures) ∙ p₂ .enum-told .given .1)))
 
 evaluate-constraint-residual-same-length-4 : (t : ℕ) → evaluate-constraint-residual-lts.Need-same-length-4 (evaluate-constraint-residual-calls t) (evaluate-constraint-residual-at t) evaluate-constraint-residual.Post
 evaluate-constraint-residual-same-length-4 t c = search needs
@@ -253,8 +277,12 @@ evaluate-constraint-residual-same-length-4 t c = search needs
 evaluate-constraint-residual-returns-4 : (t : ℕ) → evaluate-constraint-residual-lts.Need-returns-4 (evaluate-constraint-residual-calls t) (evaluate-constraint-residual-at t) evaluate-constraint-residual.Post
 unfolding residual
 evaluate-constraint-residual-returns-4 t c =
-    let s = c .before .before .before .before .before .before .before .before .before .before .before .before in
-    c .before .before .residual-sum .ensures ∙ sym (ap (residual (s .args .settings) (now (s .args .point))) (at-and _ _ _ _ (s .pre .1 .0) _ (sym (c .before .before .before .before .before .before .before .record-in .ensures) ∙ c .before .before .before .before .before .m .given .1)))
+    let p₁ = c .before .before in
+    let p₂ = p₁ .before .before .before in
+    let p₃ = p₂ .before .before in
+    let p₄ = p₃ .before .before .before .before .before in
+    let s = p₄ in
+    p₁ .residual-sum .ensures ∙ sym (ap (residual (s .args .settings) (now (s .args .point))) (at-and _ _ _ _ (s .pre .1 .0) _ (sym (p₃ .record-in .ensures) ∙ p₂ .m .given .1)))
 
 evaluate-constraint-residual-same-length-5 : (t : ℕ) → evaluate-constraint-residual-lts.Need-same-length-5 (evaluate-constraint-residual-calls t) (evaluate-constraint-residual-at t) evaluate-constraint-residual.Post
 evaluate-constraint-residual-same-length-5 t c = search needs
@@ -262,24 +290,36 @@ evaluate-constraint-residual-same-length-5 t c = search needs
 evaluate-constraint-residual-returns-5 : (t : ℕ) → evaluate-constraint-residual-lts.Need-returns-5 (evaluate-constraint-residual-calls t) (evaluate-constraint-residual-at t) evaluate-constraint-residual.Post
 unfolding residual
 evaluate-constraint-residual-returns-5 t c =
-    let s = c .before .before .before .before .before .before .before .before .before .before .before .before in
-    c .before .before .residual-least .ensures ∙ sym (ap (residual (s .args .settings) (now (s .args .point))) (at-or _ _ _ _ (s .pre .1 .0) _ (sym (c .before .before .before .before .before .before .before .record-in .ensures) ∙ c .before .before .before .before .before .m2 .given .1)))
+    let p₁ = c .before .before in
+    let p₂ = p₁ .before .before .before in
+    let p₃ = p₂ .before .before in
+    let p₄ = p₃ .before .before .before .before .before in
+    let s = p₄ in
+    p₁ .residual-least .ensures ∙ sym (ap (residual (s .args .settings) (now (s .args .point))) (at-or _ _ _ _ (s .pre .1 .0) _ (sym (p₃ .record-in .ensures) ∙ p₂ .m2 .given .1)))
 
 evaluate-constraint-residual-same-length-6 : (t : ℕ) → evaluate-constraint-residual-lts.Need-same-length-6 (evaluate-constraint-residual-calls t) (evaluate-constraint-residual-at t) evaluate-constraint-residual.Post
 evaluate-constraint-residual-same-length-6 t c = search needs
 
 evaluate-constraint-residual-returns-6 : (t : ℕ) → evaluate-constraint-residual-lts.Need-returns-6 (evaluate-constraint-residual-calls t) (evaluate-constraint-residual-at t) evaluate-constraint-residual.Post
 evaluate-constraint-residual-returns-6 t c =
-    let s = c .before .before .before .before .before .before .before .before .before .before .before .before in
-    c .before .before .residual-for-all .ensures ∙ sym (ap (residual (s .args .settings) (now (s .args .point))) (at-forall _ _ _ _ (s .pre .1 .0) _ _ _ (sym (c .before .before .before .before .before .before .before .record-in .ensures) ∙ c .before .before .before .before .before .v .given .1)))
+    let p₁ = c .before .before in
+    let p₂ = p₁ .before .before .before in
+    let p₃ = p₂ .before .before in
+    let p₄ = p₃ .before .before .before .before .before in
+    let s = p₄ in
+    p₁ .residual-for-all .ensures ∙ sym (ap (residual (s .args .settings) (now (s .args .point))) (at-forall _ _ _ _ (s .pre .1 .0) _ _ _ (sym (p₃ .record-in .ensures) ∙ p₂ .v .given .1)))
 
 evaluate-constraint-residual-same-length-7 : (t : ℕ) → evaluate-constraint-residual-lts.Need-same-length-7 (evaluate-constraint-residual-calls t) (evaluate-constraint-residual-at t) evaluate-constraint-residual.Post
 evaluate-constraint-residual-same-length-7 t c = search needs
 
 evaluate-constraint-residual-returns-7 : (t : ℕ) → evaluate-constraint-residual-lts.Need-returns-7 (evaluate-constraint-residual-calls t) (evaluate-constraint-residual-at t) evaluate-constraint-residual.Post
 evaluate-constraint-residual-returns-7 t c =
-    let s = c .before .before .before .before .before .before .before .before .before .before .before .before in
-    c .before .before .residual-exists .ensures ∙ sym (ap (residual (s .args .settings) (now (s .args .point))) (at-exists _ _ _ _ (s .pre .1 .0) _ _ _ (sym (c .before .before .before .before .before .before .before .record-in .ensures) ∙ c .before .before .before .before .before .v2 .given .1)))
+    let p₁ = c .before .before in
+    let p₂ = p₁ .before .before .before in
+    let p₃ = p₂ .before .before in
+    let p₄ = p₃ .before .before .before .before .before in
+    let s = p₄ in
+    p₁ .residual-exists .ensures ∙ sym (ap (residual (s .args .settings) (now (s .args .point))) (at-exists _ _ _ _ (s .pre .1 .0) _ _ _ (sym (p₃ .record-in .ensures) ∙ p₂ .v2 .given .1)))
 
 residual-at-sampled-requires : (t : ℕ) → residual-at-lts.Need-sampled-requires (residual-at-calls t) (residual-at-at t) residual-at.Post
 residual-at-sampled-requires t c κs = c .before .before .before .before .pre .1 .1 .few
@@ -303,8 +343,11 @@ residual-at-same-length t c = search needs
 
 residual-at-returns : (t : ℕ) → residual-at-lts.Need-returns (residual-at-calls t) (residual-at-at t) residual-at.Post
 residual-at-returns t c =
-    let s = c .before .before .before .before .before .before .before .before .before .before .before in
-    c .abs .ensures ∙ ap absOf (c .before .before .before .evaluate-constraint-residual .ensures ∙ ap (λ (p : List Float). residual (s .args .settings) p (constraintAt (now (s .args .nodes)) (now (s .args .constraints)) (s .args .k))) (c .before .before .before .before .before .before .sampled .ensures))
+    let p₁ = c .before .before .before in
+    let p₂ = p₁ .before .before .before in
+    let p₃ = p₂ .before .before .before .before .before in
+    let s = p₃ in
+    c .abs .ensures ∙ ap absOf (p₁ .evaluate-constraint-residual .ensures ∙ ap (λ (p : List Float). residual (s .args .settings) p (constraintAt (now (s .args .nodes)) (now (s .args .constraints)) (s .args .k))) (p₂ .sampled .ensures))
 
 residual-exists-residual-at-requires : (t : ℕ) → residual-exists-lts.Need-residual-at-requires (residual-exists-calls t) (residual-exists-at t) residual-exists.Post
 residual-exists-residual-at-requires t c κs = let s = c .before .before .before .before .before in (omega arith, (s .pre .1 .0, s .pre .1 .1))
@@ -332,7 +375,13 @@ residual-exists-same-length t c = search needs
 
 residual-exists-returns : (t : ℕ) → residual-exists-lts.Need-returns (residual-exists-calls t) (residual-exists-at t) residual-exists.Post
 residual-exists-returns t c =
-    least _ _ _ _ _ _ _ _ _ _ (c .before .before .before .before .before .before .before .before .before .before .before .middle .ensures) (c .before .before .before .before .before .before .before .before .before .before .before .before .before .before .residual-at .ensures) (c .before .before .before .before .before .before .before .before .before .residual-at2 .ensures) (c .before .before .before .before .before .residual-at3 .ensures) _ _ _ (c .before .before .min .ensures ∙ ap (λ (x : Float). minOf x (c .before .before .before .before .before .before .before .before .before .before .before .before .before .before .residual-at .result)) infinite) (c .before .min2 .ensures) (c .min3 .ensures)
+    let p₁ = c .before in
+    let p₂ = p₁ .before in
+    let p₃ = p₂ .before .before .before in
+    let p₄ = p₃ .before .before .before .before in
+    let p₅ = p₄ .before .before in
+    let p₆ = p₅ .before .before .before in
+    least _ _ _ _ _ _ _ _ _ _ (p₅ .middle .ensures) (p₆ .residual-at .ensures) (p₄ .residual-at2 .ensures) (p₃ .residual-at3 .ensures) _ _ _ (p₂ .min .ensures ∙ ap (λ (x : Float). minOf x (p₆ .residual-at .result)) infinite) (p₁ .min2 .ensures) (c .min3 .ensures)
 
 residual-for-all-residual-at-requires : (t : ℕ) → residual-for-all-lts.Need-residual-at-requires (residual-for-all-calls t) (residual-for-all-at t) residual-for-all.Post
 residual-for-all-residual-at-requires t c κs = let s = c .before .before .before .before .before in (omega arith, (s .pre .1 .0, s .pre .1 .1))
@@ -360,7 +409,13 @@ residual-for-all-same-length t c = search needs
 
 residual-for-all-returns : (t : ℕ) → residual-for-all-lts.Need-returns (residual-for-all-calls t) (residual-for-all-at t) residual-for-all.Post
 residual-for-all-returns t c =
-    greatest _ _ _ _ _ _ _ _ _ _ (c .before .before .before .before .before .before .before .before .before .before .before .middle .ensures) (c .before .before .before .before .before .before .before .before .before .before .before .before .before .before .residual-at .ensures) (c .before .before .before .before .before .before .before .before .before .residual-at2 .ensures) (c .before .before .before .before .before .residual-at3 .ensures) _ _ _ (c .before .before .max .ensures) (c .before .max2 .ensures) (c .max3 .ensures)
+    let p₁ = c .before in
+    let p₂ = p₁ .before in
+    let p₃ = p₂ .before .before .before in
+    let p₄ = p₃ .before .before .before .before in
+    let p₅ = p₄ .before .before in
+    let p₆ = p₅ .before .before .before in
+    greatest _ _ _ _ _ _ _ _ _ _ (p₅ .middle .ensures) (p₆ .residual-at .ensures) (p₄ .residual-at2 .ensures) (p₃ .residual-at3 .ensures) _ _ _ (p₂ .max .ensures) (p₁ .max2 .ensures) (c .max3 .ensures)
 
 residual-least-returns : (t : ℕ) → residual-least-lts.Need-returns (residual-least-calls t) (residual-least-at t) residual-least.Post
 residual-least-returns t c = let s = c .before .before .before .before .before in infinite ∙ least-of-none _ _ _ _ _ _ _ (s .pre .1 .0) (c .if1 .taken)
@@ -399,7 +454,13 @@ residual-least-same-length : (t : ℕ) → residual-least-lts.Need-same-length (
 residual-least-same-length t c = search needs
 
 residual-least-returns-2 : (t : ℕ) → residual-least-lts.Need-returns-2 (residual-least-calls t) (residual-least-at t) residual-least.Post
-residual-least-returns-2 t c = let s = c .before .before .before .before .before .before .before .before .before .before .before .before .before .before .before .before in least-of-more _ _ _ _ _ _ _ (s .pre .1 .0) (c .before .before .before .before .before .before .before .before .before .before .before .if1 .left) _ refl _ _ _ (c .before .before .before .before .evaluate-constraint-residual .ensures) (c .before .abs .ensures) _ (c .before .before .before .before .before .before .before .before .residual-least .ensures) (c .min .ensures)
+residual-least-returns-2 t c =
+    let p₁ = c .before in
+    let p₂ = p₁ .before .before .before in
+    let p₃ = p₂ .before .before .before .before in
+    let p₄ = p₃ .before .before .before in
+    let p₅ = p₄ .before .before .before .before .before in
+    let s = p₅ in least-of-more _ _ _ _ _ _ _ (s .pre .1 .0) (p₄ .if1 .left) _ refl _ _ _ (p₂ .evaluate-constraint-residual .ensures) (p₁ .abs .ensures) _ (p₃ .residual-least .ensures) (c .min .ensures)
 
 residual-sum-returns : (t : ℕ) → residual-sum-lts.Need-returns (residual-sum-calls t) (residual-sum-at t) residual-sum.Post
 residual-sum-returns t c = let s = c .before .before .before .before .before in sum-of-none _ _ _ _ _ _ _ (s .pre .1 .0) (c .if1 .taken)
@@ -435,7 +496,12 @@ residual-sum-same-length : (t : ℕ) → residual-sum-lts.Need-same-length (resi
 residual-sum-same-length t c = search needs
 
 residual-sum-returns-2 : (t : ℕ) → residual-sum-lts.Need-returns-2 (residual-sum-calls t) (residual-sum-at t) residual-sum.Post
-residual-sum-returns-2 t c = let s = c .before .before .before .before .before .before .before .before .before .before .before .before .before .before .before in sum-of-more _ _ _ _ _ _ _ (s .pre .1 .0) (c .before .before .before .before .before .before .before .before .before .before .if1 .left) _ refl _ _ _ (c .before .before .before .evaluate-constraint-residual .ensures) (c .abs .ensures) (c .before .before .before .before .before .before .before .residual-sum .ensures)
+residual-sum-returns-2 t c =
+    let p₁ = c .before .before .before in
+    let p₂ = p₁ .before .before .before .before in
+    let p₃ = p₂ .before .before .before in
+    let p₄ = p₃ .before .before .before .before .before in
+    let s = p₄ in sum-of-more _ _ _ _ _ _ _ (s .pre .1 .0) (p₃ .if1 .left) _ refl _ _ _ (p₁ .evaluate-constraint-residual .ensures) (c .abs .ensures) (p₂ .residual-sum .ensures)
 
 pub +evaluate-constraint-residual+residual-at+residual-exists+residual-for-all+residual-least+residual-sum-spec :
     {M : Type 1} → statement M

@@ -21,13 +21,20 @@ same-length : tie.Need-same-length
 same-length c = search needs
 
 returns : tie.Need-returns
-returns c = c .holds .ensures ∙ sym (ap (passes (c .before .before .before .before .before .before .before .before .before .before .before .args .settings) (c .before .before .before .before .before .before .before .before .before .before .before .args .relation)) (sym (c .before .before .before .before .before .before .eval-real .ensures) ∙ c .before .before .v .given .1))
+returns c =
+    let p₁ = c .before .before in
+    let p₂ = p₁ .before .before .before .before in
+    let s = p₂ .before .before .before .before .before in
+    c .holds .ensures ∙ sym (ap (passes (s .args .settings) (s .args .relation)) (sym (p₂ .eval-real .ensures) ∙ p₁ .v .given .1))
 
 same-length-2 : tie.Need-same-length-2
 same-length-2 c = search needs
 
 returns-2 : tie.Need-returns-2
-returns-2 c = sym (ap (passes (c .before .before .before .before .before .before .before .before .before .args .settings) (c .before .before .before .before .before .before .before .before .before .args .relation)) (sym (c .before .before .before .before .eval-real .ensures) ∙ c .enum-told .given .1))
+returns-2 c =
+    let p₁ = c .before .before .before .before in
+    let s = p₁ .before .before .before .before .before in
+    sym (ap (passes (s .args .settings) (s .args .relation)) (sym (p₁ .eval-real .ensures) ∙ c .enum-told .given .1))
 
 pub check-atom-spec : {M : Type 1} → statement M
 check-atom-spec =

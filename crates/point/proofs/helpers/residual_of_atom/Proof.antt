@@ -28,13 +28,22 @@ same-length : tie.Need-same-length
 same-length c = search needs
 
 returns : tie.Need-returns
-returns c = c .shortfall .ensures ∙ sym (ap (λ (x : Evaluated). shortfall (c .before .before .before .before .before .before .before .before .before .before .before .args .relation) (valueOr (errorValue (c .before .before .before .before .before .before .before .before .before .before .before .args .relation)) x)) (sym (c .before .before .before .before .before .before .eval-real .ensures) ∙ c .before .before .v .given .1))
+returns c =
+    let p₁ = c .before .before in
+    let p₂ = p₁ .before .before .before .before in
+    let s = p₂ .before .before .before .before .before in
+    c .shortfall .ensures ∙ sym (ap (λ (x : Evaluated). shortfall (s .args .relation) (valueOr (errorValue (s .args .relation)) x)) (sym (p₂ .eval-real .ensures) ∙ p₁ .v .given .1))
 
 same-length-2 : tie.Need-same-length-2
 same-length-2 c = search needs
 
 returns-2 : tie.Need-returns-2
-returns-2 c = c .shortfall2 .ensures ∙ ap (shortfall (c .before .before .before .before .before .before .before .before .before .before .before .args .relation)) (c .before .error-value .ensures) ∙ sym (ap (λ (x : Evaluated). shortfall (c .before .before .before .before .before .before .before .before .before .before .before .args .relation) (valueOr (errorValue (c .before .before .before .before .before .before .before .before .before .before .before .args .relation)) x)) (sym (c .before .before .before .before .before .before .eval-real .ensures) ∙ c .before .before .enum-told .given .1))
+returns-2 c =
+    let p₁ = c .before in
+    let p₂ = p₁ .before in
+    let p₃ = p₂ .before .before .before .before in
+    let s = p₃ .before .before .before .before .before in
+    c .shortfall2 .ensures ∙ ap (shortfall (s .args .relation)) (p₁ .error-value .ensures) ∙ sym (ap (λ (x : Evaluated). shortfall (s .args .relation) (valueOr (errorValue (s .args .relation)) x)) (sym (p₃ .eval-real .ensures) ∙ p₂ .enum-told .given .1))
 
 pub residual-of-atom-spec : {M : Type 1} → statement M
 residual-of-atom-spec =
