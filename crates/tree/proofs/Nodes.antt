@@ -3,7 +3,8 @@ use Prim.Native.Nat.{ℕ, suc, _+_, _*_, max, _≤_, _<_}
 use mathlib.Core.Path.{_≡_, refl, sym, ap, ap₂, _∙_}
 use mathlib.Core.Bool.{true, false}
 use mathlib.Core.List.{List}
-use native.Mathlib.Nat.{le-antisymm}
+use mathlib.Core.Logic.{⊎-elim}
+use native.Mathlib.Nat.{le-antisymm, le-of-suc-le-suc, eq-or-lt-of-le}
 use native.Mathlib.Omega.{arith}
 use borrow.Author.Tests.{le-leb, lt-leb}
 use lib.ListN.{length, getD, set}
@@ -12,49 +13,51 @@ use Rattle.tree.specs.RefusalLaws.{none-more, none-of-each, passing-all,
 use Rattle.tree.specs.Tree.{size, depth, isSmall}
 use Rattle.tree.specs.Nodes.{nodeAt, isNode, treeAt, nodeRefusal, nodesRefusal, nodesFit, listRefusal, Valid}
 use Rattle.tree.specs.NodeLaws.{Right, right, tree-one, tree-const, tree-var, tree-eml, size-small, depth-small}
-use Rattle.tree.specs.Code.{sizeAt, depthAt, sizeBy, depthBy, Known}
+use Rattle.tree.specs.Code.{sizeAt, depthAt, sizeBy, depthBy, Known, Within}
 use Rattle.tree.specs.declared.Node.{Node}
 
-pub record Passed (b : List ℕ) (k : ℕ) (s₀ d₀ s d : List ℕ) : Type 0 where
+-- the first k; their sizes and depths are held, and no size is above m
+pub record Passed (b : List ℕ) (k : ℕ) (s₀ d₀ s d : List ℕ) (m : ℕ) : Type 0 where
   pub none : first (nodeRefusal b) k ≡ 0
   pub sizes : s ≡ filled (sizeAt b) k s₀
   pub depths : d ≡ filled (depthAt b) k d₀
+  pub within : Within b k m
 
 -- what `test_nodes` ensures
-abbrev pub Answer : List ℕ → ℕ → List ℕ → List ℕ → List ℕ → List ℕ → ℕ → Type 0
-Answer b n s₀ d₀ s d r =
-    (r ≡ nodesRefusal b n) × ((s ≡ filled (sizeAt b) (passing (nodeRefusal b) n) s₀) × (d ≡ filled (depthAt b) (passing (nodeRefusal b) n) d₀))
+abbrev pub Answer : List ℕ → ℕ → List ℕ → List ℕ → List ℕ → List ℕ → ℕ → ℕ → Type 0
+Answer b n s₀ d₀ s d m r =
+    (r ≡ nodesRefusal b n) × ((s ≡ filled (sizeAt b) (passing (nodeRefusal b) n) s₀) × ((d ≡ filled (depthAt b) (passing (nodeRefusal b) n) d₀) × (r ≡ 0 → Within b n m)))
 
-module _ (b : List ℕ) (k : ℕ) (s₀ d₀ s d : List ℕ) (p : Passed b k s₀ d₀ s d) where
-  pub finished : (n : ℕ) → n ≤ k → k ≤ n → Answer b n s₀ d₀ s d 0
+module _ (b : List ℕ) (k : ℕ) (s₀ d₀ s d : List ℕ) (m : ℕ) (p : Passed b k s₀ d₀ s d m) where
+  pub finished : (n : ℕ) → n ≤ k → k ≤ n → Answer b n s₀ d₀ s d m 0
   unfolding nodesRefusal
   finished n h g =
       let e = le-antisymm h g in
       let q = sym (ap (passing (nodeRefusal b)) e ∙ passing-all (nodeRefusal b) k (p .none)) in (
         sym (ap (first (nodeRefusal b)) e ∙ p .none),
-        (p .sizes ∙ ap (λ (j : ℕ). filled (sizeAt b) j s₀) q, p .depths ∙ ap (λ (j : ℕ). filled (depthAt b) j d₀) q),
+        (p .sizes ∙ ap (λ (j : ℕ). filled (sizeAt b) j s₀) q, (p .depths ∙ ap (λ (j : ℕ). filled (depthAt b) j d₀) q, λ z j l. p .within j (omega arith))),
       )
 
-module _ (b : List ℕ) (k : ℕ) (s₀ d₀ s d : List ℕ) (p : Passed b k s₀ d₀ s d) (n : ℕ) (l : k < n) (few : n ≤ 1024) (there : 16 * n ≤ length b) where
-  stop : (r : ℕ) → nodeRefusal b k ≡ suc r → Answer b n s₀ d₀ s d (suc r)
+module _ (b : List ℕ) (k : ℕ) (s₀ d₀ s d : List ℕ) (m : ℕ) (p : Passed b k s₀ d₀ s d m) (n : ℕ) (l : k < n) (few : n ≤ 1024) (there : 16 * n ≤ length b) where
+  stop : (r : ℕ) → nodeRefusal b k ≡ suc r → Answer b n s₀ d₀ s d m (suc r)
   unfolding nodesRefusal
   stop r e =
       let q = sym (passing-here (nodeRefusal b) r k (p .none) e n l) in (
         sym (first-here (nodeRefusal b) r k (p .none) e n l),
-        (p .sizes ∙ ap (λ (j : ℕ). filled (sizeAt b) j s₀) q, p .depths ∙ ap (λ (j : ℕ). filled (depthAt b) j d₀) q),
+        (p .sizes ∙ ap (λ (j : ℕ). filled (sizeAt b) j s₀) q, (p .depths ∙ ap (λ (j : ℕ). filled (depthAt b) j d₀) q, λ z. absurd (omega (arith, z)))),
       )
 
   -- the tests, in order
-  pub three : isNode b k ≡ false → Answer b n s₀ d₀ s d 3
+  pub three : isNode b k ≡ false → Answer b n s₀ d₀ s d m 3
   unfolding nodeRefusal
   three e = stop 2 (simp e)
 
   module _ (is : isNode b k ≡ true) where
-    pub four-size : 4096 < size (treeAt b k) → Answer b n s₀ d₀ s d 4
+    pub four-size : 4096 < size (treeAt b k) → Answer b n s₀ d₀ s d m 4
     unfolding nodeRefusal isSmall
     four-size h = stop 3 (simp (is, lt-leb _ _ h))
 
-    pub four-depth : size (treeAt b k) ≤ 4096 → 128 < depth (treeAt b k) → Answer b n s₀ d₀ s d 4
+    pub four-depth : size (treeAt b k) ≤ 4096 → 128 < depth (treeAt b k) → Answer b n s₀ d₀ s d m 4
     unfolding nodeRefusal isSmall
     four-depth g h = stop 3 (simp (is, le-leb _ _ g, lt-leb _ _ h))
 
@@ -62,11 +65,12 @@ module _ (b : List ℕ) (k : ℕ) (s₀ d₀ s d : List ℕ) (p : Passed b k s�
     unfolding nodeRefusal isSmall
     none-here g h = simp (is, le-leb _ _ g, le-leb _ _ h)
 
-    pub next : (u w : ℕ) → u ≡ size (treeAt b k) → w ≡ depth (treeAt b k) → u ≤ 4096 → w ≤ 128 → Passed b (k + 1) s₀ d₀ (set s k u) (set d k w)
-    next u w x y g h = record {
+    pub next : (u w m′ : ℕ) → u ≡ size (treeAt b k) → w ≡ depth (treeAt b k) → u ≤ 4096 → w ≤ 128 → m′ ≡ max m u → Passed b (k + 1) s₀ d₀ (set s k u) (set d k w) m′
+    next u w m′ x y g h e = record {
       none = none-more (nodeRefusal b) k (p .none) (none-here (omega arith) (omega arith));
       sizes = ap₂ (λ (a : List ℕ) (c : ℕ). set a k c) (p .sizes) x ∙ filled-more (sizeAt b) s₀ k;
       depths = ap₂ (λ (a : List ℕ) (c : ℕ). set a k c) (p .depths) y ∙ filled-more (depthAt b) d₀ k;
+      within = λ j l. ⊎-elim (λ (q : j ≡ k). omega (arith, x, e, ap (λ (i : ℕ). size (treeAt b i)) q)) (λ (q : j < k). omega (arith, p .within j q, e)) (eq-or-lt-of-le (le-of-suc-le-suc (omega arith)));
     }
 
     -- what `measure` asks and tells
@@ -116,13 +120,7 @@ module _ (b : List ℕ) (k : ℕ) (s₀ d₀ s d : List ℕ) (p : Passed b k s�
       pub told : (sizeBy (nodeAt b k) s ≡ size (treeAt b k)) × (depthBy (nodeAt b k) d ≡ depth (treeAt b k))
       told = sized (nodeAt b k) refl (right b k is)
 
--- ---- what `test_in` and `test_sizes` tell
--- the sizes held, of a list that passed
-pub size-held : (b : List ℕ) (n : ℕ) (s₀ s : List ℕ) → n ≤ length s₀ → s ≡ filled (sizeAt b) (passing (nodeRefusal b) n) s₀ → nodesRefusal b n ≡ 0 → (k : ℕ) → k < n → getD s k 0 ≡ size (treeAt b k)
-unfolding nodesRefusal
-size-held b n s₀ s l e none k h =
-    ap (λ (a : List ℕ). getD a k 0) (e ∙ ap (λ (j : ℕ). filled (sizeAt b) j s₀) (passing-all (nodeRefusal b) n none)) ∙ filled-at (sizeAt b) s₀ n k h l
-
+-- ---- what `test_sizes` tells
 module _ (b : List ℕ) (n : ℕ) where
   pub no-fit : nodesFit (length b) n ≡ false → 2 ≡ listRefusal b n
   unfolding listRefusal

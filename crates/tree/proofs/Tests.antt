@@ -1,14 +1,11 @@
 -- The test of a record goes by its kind, and the greatest of a list by one more element. Assumes nothing.
-use Prim.Native.Nat.{ℕ, zero, suc, _+_, _*_, max, _≤_, _<_}
-use mathlib.Core.Path.{_≡_, refl, sym, _∙_, subst}
+use Prim.Native.Nat.{ℕ, zero, suc, _+_, _*_, _<_}
+use mathlib.Core.Path.{_≡_, refl, sym, _∙_}
 use mathlib.Core.Bool.{Bool, true, false, _&&_}
 use mathlib.Core.List.{List}
-use mathlib.Core.Logic.{⊎-elim}
-use native.Mathlib.Nat.{eq-or-lt-of-le, le-of-suc-le-suc}
 use native.Mathlib.Omega.{arith}
 use lib.Dec.{ltb, eqb}
 use borrow.Author.Tests.{le-ltb, ne-eqb}
-use lib.ListN.{getD}
 use lib.Ieee.Scale.{finite}
 use Rattle.tree.specs.Bytes.{u32At, f64At}
 use Rattle.tree.specs.Nodes.{isNode}
@@ -46,10 +43,3 @@ pub node-is : (b : List ℕ) (k kind left right last : ℕ) (real : Bool) → ki
     → ((ltb kind 4 && ltb left x) && z) ≡ isNode b k
 unfolding isNode
 node-is b k kind left right last real e f g h r u v w = simp (u, w, v, sym e, sym f, sym g, sym h, sym r) (node-test kind left right last k real)
-
-pub one-more : (s : List ℕ) (i r r′ : ℕ) → ((j : ℕ) → j < i → getD s j 0 ≤ r) → r′ ≡ max r (getD s i 0) → (j : ℕ) → j < i + 1 → getD s j 0 ≤ r′
-one-more s i r r′ h e j l =
-    ⊎-elim
-    (λ (q : j ≡ i). subst (λ (m : ℕ). getD s m 0 ≤ r′) (sym q) (omega arith))
-    (λ q. omega (arith, h j q))
-    (eq-or-lt-of-le (le-of-suc-le-suc (omega arith)))

@@ -175,30 +175,51 @@ fn measure(node: Node, size: &[u16], depth: &[u8]) -> Sized
     }
 }
 
+// The refusal of a list of nodes, or 0; and where there is none, a size that no node's tree is above.
+pub struct Tested {
+    pub refusal: u8,
+    pub largest: usize,
+}
+
 // Each of count nodes: 3, then 4. The sizes and depths of those that pass are left in the two lists.
-fn test_nodes(nodes: &[u8], count: usize, size: &mut [u16], depth: &mut [u8]) -> u8
+fn test_nodes(nodes: &[u8], count: usize, size: &mut [u16], depth: &mut [u8]) -> Tested
     requires { ⌜ (count ≤ 1024) × (16 * count ≤ length (now nodes)) × (count ≤ length (now size)) × (count ≤ length (now depth)) ⌝ }
-    ensures { λ r. ⌜ r ≡ nodesRefusal (now (nodes .entry)) count ⌝ }
+    ensures { λ r. ⌜ r .refusal ≡ nodesRefusal (now (nodes .entry)) count ⌝ }
     ensures { λ _. ⌜ now (size .exit) ≡ filled (sizeAt (now (nodes .entry))) (passing (nodeRefusal (now (nodes .entry))) count) (now (size .entry)) ⌝ }
     ensures { λ _. ⌜ now (depth .exit) ≡ filled (depthAt (now (nodes .entry))) (passing (nodeRefusal (now (nodes .entry))) count) (now (depth .entry)) ⌝ }
+    ensures { λ r. ⌜ (r .refusal ≡ 0 → Within (now (nodes .entry)) count (r .largest)) ⌝ }
 {
+    let mut largest: usize = 0;
     let mut k: usize = 0;
     while k < count {
         if !is_node(nodes, k) {
-            return 3;
+            return Tested {
+                refusal: 3,
+                largest,
+            };
         }
         let m = measure(node_in(nodes, k), size, depth);
         if 4096 < m.size {
-            return 4;
+            return Tested {
+                refusal: 4,
+                largest,
+            };
         }
         if 128 < m.depth {
-            return 4;
+            return Tested {
+                refusal: 4,
+                largest,
+            };
         }
         size[k] = m.size as u16;
         depth[k] = m.depth as u8;
+        largest = larger(largest, m.size);
         k += 1;
     }
-    0
+    Tested {
+        refusal: 0,
+        largest,
+    }
 }
 
 // Whether n nodes are a list that fits in len bytes.
@@ -209,37 +230,6 @@ fn nodes_fit(len: usize, n: usize) -> bool
         return false;
     }
     16 * n <= len
-}
-
-// The refusal of a list of nodes, or 0; and where there is none, a size that no node's tree is above.
-pub struct Tested {
-    pub refusal: u8,
-    pub largest: usize,
-}
-
-// The greatest of the first n, and 0 of none.
-fn largest_of(size: &[u16], n: usize) -> usize
-    requires { ⌜ n ≤ length (now size) ⌝ }
-    ensures { λ r. ⌜ ((i : ℕ) → i < n → getD (now (size .entry)) i 0 ≤ r) ⌝ }
-{
-    let mut r: usize = 0;
-    let mut i: usize = 0;
-    while i < n {
-        r = larger(r, size[i] as usize);
-        i += 1;
-    }
-    r
-}
-
-// With room lent for the sizes and depths.
-fn test_in(nodes: &[u8], count: usize, size: &mut [u16], depth: &mut [u8]) -> Tested
-    requires { ⌜ (count ≤ 1024) × (16 * count ≤ length (now nodes)) × (count ≤ length (now size)) × (count ≤ length (now depth)) ⌝ }
-    ensures { λ r. ⌜ r .refusal ≡ nodesRefusal (now (nodes .entry)) count ⌝ }
-    ensures { λ r. ⌜ (r .refusal ≡ 0 → Within (now (nodes .entry)) count (r .largest)) ⌝ }
-{
-    let refusal = test_nodes(nodes, count, size, depth);
-    let largest = largest_of(size, count);
-    Tested { refusal, largest }
 }
 
 // A list of count nodes: 2, then each node 3, 4. Room for a short list is made sooner.
@@ -256,11 +246,11 @@ pub fn test_sizes(nodes: &[u8], count: usize) -> Tested
     if count <= 64 {
         let mut size = [0u16; 64];
         let mut depth = [0u8; 64];
-        return test_in(nodes, count, &mut size, &mut depth);
+        return test_nodes(nodes, count, &mut size, &mut depth);
     }
     let mut size = [0u16; 1024];
     let mut depth = [0u8; 1024];
-    test_in(nodes, count, &mut size, &mut depth)
+    test_nodes(nodes, count, &mut size, &mut depth)
 }
 
 // Its refusal only.
@@ -356,9 +346,9 @@ fn measure_operands(nodes: &[u8], count: usize, x: usize, y: usize) -> Operands
     }
     let mut size = [0u16; 1024];
     let mut depth = [0u8; 1024];
-    let r = test_nodes(nodes, count, &mut size, &mut depth);
-    if r != 0 {
-        return refused(r);
+    let t = test_nodes(nodes, count, &mut size, &mut depth);
+    if t.refusal != 0 {
+        return refused(t.refusal);
     }
     if count <= x {
         return refused(3);

@@ -11,8 +11,8 @@ use Rattle.tree.proofs.Nodes.{no-fit, fitting}
 returns : tie.Need-returns
 returns c = (no-fit _ _ (sym (c .before .nodes-fit .ensures) ∙ not-true _ (c .if1 .taken)), λ z. absurd (omega (arith, z)))
 
-test-in-requires : tie.Need-test-in-requires
-test-in-requires c κs =
+test-nodes-requires : tie.Need-test-nodes-requires
+test-nodes-requires c κs =
     let p₁ = c .before .before in
     let p₂ = p₁ .before in
     let p₃ = p₂ .before in
@@ -24,10 +24,10 @@ returns-2 c =
     let p₁ = c .before .before in
     let p₂ = p₁ .before .before .before .before in
     let p₃ = p₂ .before in
-    (p₁ .test-in .ensures .0 ∙ fitting _ _ (sym (p₃ .nodes-fit .ensures) ∙ not-false _ (p₂ .if1 .left)), p₁ .test-in .ensures .1)
+    (p₁ .test-nodes .ensures .0 ∙ fitting _ _ (sym (p₃ .nodes-fit .ensures) ∙ not-false _ (p₂ .if1 .left)), p₁ .test-nodes .ensures .1 .1 .1)
 
-test-in-requires-2 : tie.Need-test-in-requires-2
-test-in-requires-2 c κs =
+test-nodes-requires-2 : tie.Need-test-nodes-requires-2
+test-nodes-requires-2 c κs =
     let w = fit-parts _ _ (sym (c .before .before .before .before .nodes-fit .ensures) ∙ not-false _ (c .before .before .before .if1 .left)) in
     (w .0, w .1, w .0, w .0)
 
@@ -36,7 +36,7 @@ returns-3 c =
     let p₁ = c .before .before in
     let p₂ = p₁ .before .before .before .before in
     let p₃ = p₂ .before in
-    (p₁ .test-in2 .ensures .0 ∙ fitting _ _ (sym (p₃ .nodes-fit .ensures) ∙ not-false _ (p₂ .if1 .left)), p₁ .test-in2 .ensures .1)
+    (p₁ .test-nodes2 .ensures .0 ∙ fitting _ _ (sym (p₃ .nodes-fit .ensures) ∙ not-false _ (p₂ .if1 .left)), p₁ .test-nodes2 .ensures .1 .1 .1)
 
 pub test-sizes-spec : {M : Type 1} → statement M
 test-sizes-spec =
@@ -46,9 +46,9 @@ test-sizes-spec =
     returns
     (λ c. search needs)
     (λ c. search needs)
-    test-in-requires
+    test-nodes-requires
     returns-2
     (λ c. search needs)
     (λ c. search needs)
-    test-in-requires-2
+    test-nodes-requires-2
     returns-3)
