@@ -1,6 +1,7 @@
 pub mod Constraint
 pub mod Records
 pub mod Starts
+pub mod Views
 pub mod StartLaws
 pub mod Fingerprint
 pub mod Comparison

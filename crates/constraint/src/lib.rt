@@ -6,12 +6,13 @@ ghost use mathlib.Core.List.{List};
 ghost use lib.ListN.{length, getD, take, drop};
 ghost use lib.Seq.{sets};
 ghost use Rattle.tree.specs.Refusal.{passing, filled};
-ghost use Rattle.constraint.specs.Records.{relationOf, recordAt, isRecord, isRanged, takes, gather, constraintAt, recordRefusal, recordsRefusal};
-ghost use Rattle.constraint.specs.Starts.{startAt, upTo, Ready, Taken};
+ghost use Rattle.constraint.specs.Records.{relationOf, recordAt, isRecord, isRanged, takes, recordRefusal, recordsRefusal};
+ghost use Rattle.constraint.specs.Starts.{startAt, Ready, Taken};
 ghost use Rattle.constraint.specs.Constraint.{numVars, numVarsAll};
 ghost use Rattle.constraint.specs.Fingerprint.{kindOf, mixRange, fingerprints, fingerprint as printOf};
 ghost use Rattle.constraint.specs.Comparison.{recordBytes, compared, _leaving_and_};
 ghost use Rattle.constraint.specs.Code.{greatest, binds};
+ghost use Rattle.constraint.specs.Views.{those, the};
 
 // How an atom compares its tree's value with zero.
 pub enum Relation {
@@ -239,7 +240,7 @@ pub fn test_records(count: usize, constraints: &[u8], n: usize, starts: &mut [us
 // The number of variables.
 pub fn num_vars(nodes: &[u8], constraints: &[u8], starts: &[usize; 256], k: usize) -> usize
     requires { ⌜ Ready (now nodes) (now constraints) (k + 1) (now starts) ⌝ }
-    ensures { λ r. ⌜ r ≡ numVars (constraintAt (now (nodes .entry)) (now (constraints .entry)) k) ⌝ }
+    ensures { λ r. ⌜ r ≡ numVars (the nodes constraints k) ⌝ }
 {
     match record_in(constraints, k) {
         Record::Atom(_, i) => tree::num_vars(nodes, i),
@@ -260,7 +261,7 @@ fn num_vars_all(
     end: usize,
 ) -> usize
     requires { ⌜ Taken (now nodes) (now constraints) m end (now starts) ⌝ }
-    ensures { λ r. ⌜ r ≡ numVarsAll (gather (upTo (now (nodes .entry)) (now (constraints .entry)) m end)) ⌝ }
+    ensures { λ r. ⌜ r ≡ numVarsAll (those nodes constraints m end) ⌝ }
 {
     if m == 0 {
         return 0;
@@ -295,7 +296,7 @@ fn mix_range(h: u32, v: usize, lo: f64, hi: f64) -> u32
 // The fingerprint.
 pub fn fingerprint(nodes: &[u8], constraints: &[u8], starts: &[usize; 256], k: usize) -> u32
     requires { ⌜ Ready (now nodes) (now constraints) (k + 1) (now starts) ⌝ }
-    ensures { λ r. ⌜ r ≡ printOf (constraintAt (now (nodes .entry)) (now (constraints .entry)) k) ⌝ }
+    ensures { λ r. ⌜ r ≡ printOf (the nodes constraints k) ⌝ }
 {
     match record_in(constraints, k) {
         Record::Atom(rel, i) => tree::mix(tree::mix(5, kind_of(rel)), tree::fingerprint(nodes, i)),
@@ -323,7 +324,7 @@ fn mix_all(
     h: u32,
 ) -> u32
     requires { ⌜ Taken (now nodes) (now constraints) m end (now starts) ⌝ }
-    ensures { λ r. ⌜ r ≡ fingerprints (gather (upTo (now (nodes .entry)) (now (constraints .entry)) m end)) h ⌝ }
+    ensures { λ r. ⌜ r ≡ fingerprints (those nodes constraints m end) h ⌝ }
 {
     if m == 0 {
         return h;

@@ -1,5 +1,6 @@
 pub mod Interval
 pub mod Boxes
+pub mod Views
 pub mod BoxLaws
 pub mod Choices
 pub mod Inside

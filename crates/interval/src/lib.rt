@@ -6,7 +6,8 @@ ghost use lib.Ieee.Scale.{finite};
 ghost use Rattle.maths.specs.Exp.{expOf};
 ghost use Rattle.maths.specs.Ln.{lnOf};
 ghost use Rattle.interval.specs.Interval.{_‥_, isEmpty, width, midpoint, contains, split, intersect, hull, exp, hasLn, ln};
-ghost use Rattle.interval.specs.Boxes.{intervals, boxesOf, missing, starting, anyEmpty, allSound, areBoxes};
+ghost use Rattle.interval.specs.Boxes.{boxesOf, missing, starting, anyEmpty, allSound, areBoxes};
+ghost use Rattle.interval.specs.Views.{before};
 
 #[repr(C)]
 pub struct Interval {
@@ -162,7 +163,7 @@ impl Interval {
 // The box of variable i; one beyond the list is [-10, 10].
 pub fn box_at(lo: &[f64], hi: &[f64], i: usize) -> Interval
     requires { ⌜ length (now hi) ≡ length (now lo) ⌝ }
-    ensures { λ r. ⌜ r ≡ getD (intervals (now (lo .entry)) (now (hi .entry))) i missing ⌝ }
+    ensures { λ r. ⌜ r ≡ getD (before lo hi) i missing ⌝ }
 {
     if i < lo.len() {
         return Interval::new(lo[i], hi[i]);
@@ -172,7 +173,7 @@ pub fn box_at(lo: &[f64], hi: &[f64], i: usize) -> Interval
 
 fn all_sound(lo: &[f64], hi: &[f64]) -> bool
     requires { ⌜ length (now hi) ≡ length (now lo) ⌝ }
-    ensures { λ r. ⌜ r ≡ allSound (intervals (now (lo .entry)) (now (hi .entry))) ⌝ }
+    ensures { λ r. ⌜ r ≡ allSound (before lo hi) ⌝ }
 {
     let mut i: usize = 0;
     while i < lo.len() {
@@ -210,7 +211,7 @@ impl Boxes {
     // The first n of the bounds, a missing one being [-10, 10].
     pub fn new(lo: &[f64], hi: &[f64], n: usize) -> Boxes
         requires { ⌜ (length (now hi) ≡ length (now lo)) × (n ≤ 16) ⌝ }
-        ensures { λ r. ⌜ (r .count ≡ n) × (boxesOf r ≡ starting n (intervals (now (lo .entry)) (now (hi .entry)))) ⌝ }
+        ensures { λ r. ⌜ (r .count ≡ n) × (boxesOf r ≡ starting n (before lo hi)) ⌝ }
     {
         let mut out = Boxes {
             lo: [0.0; 16],

@@ -10,15 +10,17 @@ ghost use mathlib.Core.Path.{_≡_};
 ghost use Prim.Native.Nat.{_+_, _≤_};
 ghost use lib.ListN.{length};
 ghost use Rattle.interval.specs.Interval as Intervals;
-ghost use Rattle.interval.specs.Boxes.{intervals, boxesOf};
-ghost use Rattle.tree.specs.Nodes.{treeAt, Valid};
+ghost use Rattle.interval.specs.Boxes.{boxesOf};
+ghost use Rattle.tree.specs.Nodes.{Valid};
 ghost use Rattle.tree.specs.Tree.{Eml};
 ghost use Rattle.narrow.specs.Narrowing.{_leaving_, worseOf, emlInterval, forward, evalInterval, leftOf, askReal, askOf, demand as demandOf, askBoth, fixedAt, narrowVar, backward, targetOf, nudgeVar, nudgeTree, narrowAtom, hulls, survive as surviveOf, tightened, adopt as adoptOf, adoptSurvivors, propagate as propagateOf};
-ghost use Rattle.constraint.specs.Records.{constraintAt, gather};
-ghost use Rattle.constraint.specs.Starts.{upTo, Ready, Taken};
+ghost use Rattle.constraint.specs.Starts.{Ready, Taken};
 ghost use Rattle.narrow.specs.Modes.{inMode, isNegated, underNot, relationIn, isConflict, survivorsOf, pass, passAll, passAny, passInto, passOne};
 ghost use mathlib.Core.Option.{none};
 ghost use Rattle.narrow.specs.Given.{_leaving_and_, propagateGiven};
+ghost use Rattle.tree.specs.Views.{treeOf};
+ghost use Rattle.constraint.specs.Views.{those, the};
+ghost use Rattle.interval.specs.Views.{before, after};
 
 // What a step of narrowing did.
 pub enum PropResult {
@@ -84,7 +86,7 @@ fn eml_interval(l: Interval, r: Interval) -> Values
 // Of node k's tree.
 pub fn eval_interval(nodes: &[u8], k: usize, lo: &[f64], hi: &[f64]) -> Values
     requires { ⌜ Valid (now nodes) (k + 1) × (length (now hi) ≡ length (now lo)) ⌝ }
-    ensures { λ x. ⌜ x ≡ evalInterval (intervals (now (lo .entry)) (now (hi .entry))) (treeAt (now (nodes .entry)) k) ⌝ }
+    ensures { λ x. ⌜ x ≡ evalInterval (before lo hi) (treeOf nodes k) ⌝ }
 {
     match tree::node_in(nodes, k) {
         Node::One => Values::Within(Interval::new(1.0, 1.0)),
@@ -97,7 +99,7 @@ pub fn eval_interval(nodes: &[u8], k: usize, lo: &[f64], hi: &[f64]) -> Values
 // Of an Eml of nodes a and b.
 fn eval_eml(nodes: &[u8], a: usize, b: usize, lo: &[f64], hi: &[f64]) -> Values
     requires { ⌜ Valid (now nodes) (a + 1) × Valid (now nodes) (b + 1) × (length (now hi) ≡ length (now lo)) ⌝ }
-    ensures { λ x. ⌜ x ≡ forward (evalInterval (intervals (now (lo .entry)) (now (hi .entry))) (treeAt (now (nodes .entry)) a)) (evalInterval (intervals (now (lo .entry)) (now (hi .entry))) (treeAt (now (nodes .entry)) b)) ⌝ }
+    ensures { λ x. ⌜ x ≡ forward (evalInterval (before lo hi) (treeOf nodes a)) (evalInterval (before lo hi) (treeOf nodes b)) ⌝ }
 {
     let Values::Within(l) = eval_interval(nodes, a, lo, hi) else {
         return Values::Unknown;
@@ -177,7 +179,7 @@ fn narrow_var(
     hi: &mut [f64],
 ) -> PropResult
     requires { ⌜ length (now hi) ≡ length (now lo) ⌝ }
-    ensures { λ x. ⌜ (x leaving intervals (now (lo .exit)) (now (hi .exit))) ≡ narrowVar settings i out (intervals (now (lo .entry)) (now (hi .entry))) ⌝ }
+    ensures { λ x. ⌜ (x leaving after lo hi) ≡ narrowVar settings i out (before lo hi) ⌝ }
 {
     let old = interval::box_at(lo, hi, i);
     let new = old.intersect(out);
@@ -206,7 +208,7 @@ pub fn backward_propagate(
     hi: &mut [f64],
 ) -> PropResult
     requires { ⌜ Valid (now nodes) (k + 1) × (length (now hi) ≡ length (now lo)) ⌝ }
-    ensures { λ x. ⌜ (x leaving intervals (now (lo .exit)) (now (hi .exit))) ≡ backward settings (treeAt (now (nodes .entry)) k) out (intervals (now (lo .entry)) (now (hi .entry))) ⌝ }
+    ensures { λ x. ⌜ (x leaving after lo hi) ≡ backward settings (treeOf nodes k) out (before lo hi) ⌝ }
 {
     if out.is_empty() {
         return PropResult::Conflict;
@@ -230,7 +232,7 @@ fn backward_eml(
     hi: &mut [f64],
 ) -> PropResult
     requires { ⌜ Valid (now nodes) (a + 1) × Valid (now nodes) (b + 1) × (length (now hi) ≡ length (now lo)) ⌝ }
-    ensures { λ x. ⌜ (x leaving intervals (now (lo .exit)) (now (hi .exit))) ≡ askBoth (demandOf (evalInterval (intervals (now (lo .entry)) (now (hi .entry))) (treeAt (now (nodes .entry)) a)) (evalInterval (intervals (now (lo .entry)) (now (hi .entry))) (treeAt (now (nodes .entry)) b)) out) (backward settings (treeAt (now (nodes .entry)) a)) (backward settings (treeAt (now (nodes .entry)) b)) (intervals (now (lo .entry)) (now (hi .entry))) ⌝ }
+    ensures { λ x. ⌜ (x leaving after lo hi) ≡ askBoth (demandOf (evalInterval (before lo hi) (treeOf nodes a)) (evalInterval (before lo hi) (treeOf nodes b)) out) (backward settings (treeOf nodes a)) (backward settings (treeOf nodes b)) (before lo hi) ⌝ }
 {
     let Values::Within(l) = eval_interval(nodes, a, lo, hi) else {
         return PropResult::Stable;
@@ -252,7 +254,7 @@ fn backward_both(
     hi: &mut [f64],
 ) -> PropResult
     requires { ⌜ Valid (now nodes) (a + 1) × Valid (now nodes) (b + 1) × (length (now hi) ≡ length (now lo)) ⌝ }
-    ensures { λ x. ⌜ (x leaving intervals (now (lo .exit)) (now (hi .exit))) ≡ askBoth demand (backward settings (treeAt (now (nodes .entry)) a)) (backward settings (treeAt (now (nodes .entry)) b)) (intervals (now (lo .entry)) (now (hi .entry))) ⌝ }
+    ensures { λ x. ⌜ (x leaving after lo hi) ≡ askBoth demand (backward settings (treeOf nodes a)) (backward settings (treeOf nodes b)) (before lo hi) ⌝ }
 {
     match demand {
         Demand::Answer(result) => result,
@@ -347,7 +349,7 @@ fn target_of(settings: Settings, relation: Relation, v: Interval) -> Target
 // The box of variable i is moved off zero.
 fn nudge_var(i: usize, lo: &mut [f64], hi: &mut [f64]) -> PropResult
     requires { ⌜ length (now hi) ≡ length (now lo) ⌝ }
-    ensures { λ x. ⌜ (x leaving intervals (now (lo .exit)) (now (hi .exit))) ≡ nudgeVar i (intervals (now (lo .entry)) (now (hi .entry))) ⌝ }
+    ensures { λ x. ⌜ (x leaving after lo hi) ≡ nudgeVar i (before lo hi) ⌝ }
 {
     if lo.len() <= i {
         return PropResult::Stable;
@@ -365,7 +367,7 @@ fn nudge_var(i: usize, lo: &mut [f64], hi: &mut [f64]) -> PropResult
 
 fn nudge(nodes: &[u8], k: usize, lo: &mut [f64], hi: &mut [f64]) -> PropResult
     requires { ⌜ Valid (now nodes) (k + 1) × (length (now hi) ≡ length (now lo)) ⌝ }
-    ensures { λ x. ⌜ (x leaving intervals (now (lo .exit)) (now (hi .exit))) ≡ nudgeTree (treeAt (now (nodes .entry)) k) (intervals (now (lo .entry)) (now (hi .entry))) ⌝ }
+    ensures { λ x. ⌜ (x leaving after lo hi) ≡ nudgeTree (treeOf nodes k) (before lo hi) ⌝ }
 {
     match tree::node_in(nodes, k) {
         Node::One => PropResult::Stable,
@@ -386,7 +388,7 @@ fn narrow_eml(
     hi: &mut [f64],
 ) -> PropResult
     requires { ⌜ Valid (now nodes) (a + 1) × Valid (now nodes) (b + 1) × (length (now hi) ≡ length (now lo)) ⌝ }
-    ensures { λ x. ⌜ (x leaving intervals (now (lo .exit)) (now (hi .exit))) ≡ narrowAtom settings relation (Eml (treeAt (now (nodes .entry)) a) (treeAt (now (nodes .entry)) b)) (intervals (now (lo .entry)) (now (hi .entry))) ⌝ }
+    ensures { λ x. ⌜ (x leaving after lo hi) ≡ narrowAtom settings relation (Eml (treeOf nodes a) (treeOf nodes b)) (before lo hi) ⌝ }
 {
     let Values::Within(l) = eval_interval(nodes, a, lo, hi) else {
         return PropResult::Stable;
@@ -429,7 +431,7 @@ fn narrow_other(
     hi: &mut [f64],
 ) -> PropResult
     requires { ⌜ Valid (now nodes) (k + 1) × (length (now hi) ≡ length (now lo)) ⌝ }
-    ensures { λ x. ⌜ (x leaving intervals (now (lo .exit)) (now (hi .exit))) ≡ narrowAtom settings relation (treeAt (now (nodes .entry)) k) (intervals (now (lo .entry)) (now (hi .entry))) ⌝ }
+    ensures { λ x. ⌜ (x leaving after lo hi) ≡ narrowAtom settings relation (treeOf nodes k) (before lo hi) ⌝ }
 {
     let Values::Within(v) = eval_interval(nodes, k, lo, hi) else {
         return PropResult::Stable;
@@ -454,7 +456,7 @@ fn narrow_atom(
     hi: &mut [f64],
 ) -> PropResult
     requires { ⌜ Valid (now nodes) (k + 1) × (length (now hi) ≡ length (now lo)) ⌝ }
-    ensures { λ x. ⌜ (x leaving intervals (now (lo .exit)) (now (hi .exit))) ≡ narrowAtom settings relation (treeAt (now (nodes .entry)) k) (intervals (now (lo .entry)) (now (hi .entry))) ⌝ }
+    ensures { λ x. ⌜ (x leaving after lo hi) ≡ narrowAtom settings relation (treeOf nodes k) (before lo hi) ⌝ }
 {
     let Node::Eml(a, b) = tree::node_in(nodes, k) else {
         return narrow_other(settings, relation, nodes, k, lo, hi);
@@ -546,7 +548,7 @@ fn tighten(settings: Settings, hull: Interval, old: Interval) -> Tightened
 // Each box goes to its part inside the hull, where that is not empty and an end moves.
 fn adopt(settings: Settings, hull: Boxes, lo: &mut [f64], hi: &mut [f64]) -> PropResult
     requires { ⌜ (hull .count ≤ 16) × (length (now lo) ≡ hull .count) × (length (now hi) ≡ hull .count) ⌝ }
-    ensures { λ x. ⌜ (x leaving intervals (now (lo .exit)) (now (hi .exit))) ≡ adoptOf settings (boxesOf hull) (intervals (now (lo .entry)) (now (hi .entry))) ⌝ }
+    ensures { λ x. ⌜ (x leaving after lo hi) ≡ adoptOf settings (boxesOf hull) (before lo hi) ⌝ }
 {
     let mut result = PropResult::Stable;
     let mut i = lo.len();
@@ -565,7 +567,7 @@ fn adopt(settings: Settings, hull: Boxes, lo: &mut [f64], hi: &mut [f64]) -> Pro
 
 fn adopt_survivors(settings: Settings, s: Survivors, lo: &mut [f64], hi: &mut [f64]) -> PropResult
     requires { ⌜ (s .hull .count ≤ 16) × (length (now lo) ≡ s .hull .count) × (length (now hi) ≡ s .hull .count) ⌝ }
-    ensures { λ x. ⌜ (x leaving intervals (now (lo .exit)) (now (hi .exit))) ≡ adoptSurvivors settings (survivorsOf s) (intervals (now (lo .entry)) (now (hi .entry))) ⌝ }
+    ensures { λ x. ⌜ (x leaving after lo hi) ≡ adoptSurvivors settings (survivorsOf s) (before lo hi) ⌝ }
 {
     if s.any {
         return adopt(settings, s.hull, lo, hi);
@@ -622,7 +624,7 @@ pub fn propagate_once(
     hi: &mut [f64],
 ) -> PropResult
     requires { ⌜ Ready (now nodes) (now constraints) (k + 1) (now starts) × (length (now hi) ≡ length (now lo)) × (length (now lo) ≤ 16) ⌝ }
-    ensures { λ x. ⌜ (x leaving intervals (now (lo .exit)) (now (hi .exit))) ≡ pass settings mode (constraintAt (now (nodes .entry)) (now (constraints .entry)) k) (intervals (now (lo .entry)) (now (hi .entry))) ⌝ }
+    ensures { λ x. ⌜ (x leaving after lo hi) ≡ pass settings mode (the nodes constraints k) (before lo hi) ⌝ }
 {
     match constraint::record_in(constraints, k) {
         Record::Atom(relation, i) => {
@@ -668,7 +670,7 @@ fn narrow_all(
     hi: &mut [f64],
 ) -> PropResult
     requires { ⌜ Taken (now nodes) (now constraints) m n (now starts) × (length (now hi) ≡ length (now lo)) × (length (now lo) ≤ 16) ⌝ }
-    ensures { λ x. ⌜ (x leaving intervals (now (lo .exit)) (now (hi .exit))) ≡ passAll settings mode (gather (upTo (now (nodes .entry)) (now (constraints .entry)) m n)) (intervals (now (lo .entry)) (now (hi .entry))) ⌝ }
+    ensures { λ x. ⌜ (x leaving after lo hi) ≡ passAll settings mode (those nodes constraints m n) (before lo hi) ⌝ }
 {
     if m == 0 {
         return PropResult::Stable;
@@ -698,7 +700,7 @@ fn narrow_any(
     hi: &mut [f64],
 ) -> PropResult
     requires { ⌜ Taken (now nodes) (now constraints) m n (now starts) × (length (now hi) ≡ length (now lo)) × (length (now lo) ≤ 16) ⌝ }
-    ensures { λ x. ⌜ (x leaving intervals (now (lo .exit)) (now (hi .exit))) ≡ passOne settings mode (gather (upTo (now (nodes .entry)) (now (constraints .entry)) m n)) (intervals (now (lo .entry)) (now (hi .entry))) ⌝ }
+    ensures { λ x. ⌜ (x leaving after lo hi) ≡ passOne settings mode (those nodes constraints m n) (before lo hi) ⌝ }
 {
     let boxes = Boxes::new(lo, hi, lo.len());
     let s = survivors_of(settings, mode, nodes, constraints, starts, m, n, boxes);
@@ -717,7 +719,7 @@ fn survivors_of(
     boxes: Boxes,
 ) -> Survivors
     requires { ⌜ Taken (now nodes) (now constraints) m n (now starts) × (boxes .count ≤ 16) ⌝ }
-    ensures { λ r. ⌜ (r .hull .count ≡ boxes .count) × (survivorsOf r ≡ passAny settings mode (gather (upTo (now (nodes .entry)) (now (constraints .entry)) m n)) (boxesOf boxes) none) ⌝ }
+    ensures { λ r. ⌜ (r .hull .count ≡ boxes .count) × (survivorsOf r ≡ passAny settings mode (those nodes constraints m n) (boxesOf boxes) none) ⌝ }
 {
     if m == 0 {
         return Survivors {
@@ -752,7 +754,7 @@ fn with_branch(
     before: Survivors,
 ) -> Survivors
     requires { ⌜ Ready (now nodes) (now constraints) (k + 1) (now starts) × (boxes .count ≤ 16) × (before .hull .count ≡ boxes .count) ⌝ }
-    ensures { λ r. ⌜ (r .hull .count ≡ boxes .count) × (survivorsOf r ≡ passInto settings mode (constraintAt (now (nodes .entry)) (now (constraints .entry)) k) (boxesOf boxes) (survivorsOf before)) ⌝ }
+    ensures { λ r. ⌜ (r .hull .count ≡ boxes .count) × (survivorsOf r ≡ passInto settings mode (the nodes constraints k) (boxesOf boxes) (survivorsOf before)) ⌝ }
 {
     let count = boxes.count;
     let mut lo = boxes.lo;
@@ -782,7 +784,7 @@ pub fn propagate_in_mode(
     hi: &mut [f64],
 ) -> PropResult
     requires { ⌜ Ready (now nodes) (now constraints) (k + 1) (now starts) × (length (now hi) ≡ length (now lo)) × (length (now lo) ≤ 16) ⌝ }
-    ensures { λ x. ⌜ (x leaving intervals (now (lo .exit)) (now (hi .exit))) ≡ propagateOf settings (inMode mode (constraintAt (now (nodes .entry)) (now (constraints .entry)) k)) (intervals (now (lo .entry)) (now (hi .entry))) ⌝ }
+    ensures { λ x. ⌜ (x leaving after lo hi) ≡ propagateOf settings (inMode mode (the nodes constraints k)) (before lo hi) ⌝ }
 {
     let most = settings.rounds;
     let mut done = PropResult::Stable;
@@ -810,7 +812,7 @@ pub fn propagate(
     hi: &mut [f64],
 ) -> PropResult
     requires { ⌜ Ready (now nodes) (now constraints) (k + 1) (now starts) × (length (now hi) ≡ length (now lo)) × (length (now lo) ≤ 16) ⌝ }
-    ensures { λ x. ⌜ (x leaving intervals (now (lo .exit)) (now (hi .exit))) ≡ propagateOf settings (constraintAt (now (nodes .entry)) (now (constraints .entry)) k) (intervals (now (lo .entry)) (now (hi .entry))) ⌝ }
+    ensures { λ x. ⌜ (x leaving after lo hi) ≡ propagateOf settings (the nodes constraints k) (before lo hi) ⌝ }
 {
     propagate_in_mode(
         settings,

@@ -7,13 +7,13 @@ ghost use mathlib.Core.Path.{_≡_};
 ghost use Prim.Native.Nat.{_+_, _≤_};
 ghost use mathlib.Core.List.{[]};
 ghost use lib.ListN.{length};
-ghost use Rattle.constraint.specs.Records.{constraintAt};
 ghost use Rattle.constraint.specs.Starts.{Ready};
 ghost use Rattle.point.specs.Check.{check};
 ghost use Rattle.interval.specs.Interval.{_‥_};
 ghost use Rattle.interval.specs.Boxes.{boxesOf};
 ghost use Rattle.nra.specs.Answers.{padded};
 ghost use Rattle.nra.specs.Deciding.{pointAt, forallSamples, existsSamples, first, boxesAt, refutes, decided, undecided, decidedOf, answersAs, decideForall, decideExists};
+ghost use Rattle.constraint.specs.Views.{the};
 
 pub enum Verdict {
     True,
@@ -109,7 +109,7 @@ fn answers_at(
 ) -> bool
     requires { ⌜ Ready (now nodes) (now constraints) (k + 1) (now starts) ⌝ }
     requires { ⌜ (n ≤ 16) × (4096 ≤ length (now order)) ⌝ }
-    ensures { λ r. ⌜ r ≡ answersAs wanted (check settings (pointAt n var x) (constraintAt (now (nodes .entry)) (now (constraints .entry)) k)) ⌝ }
+    ensures { λ r. ⌜ r ≡ answersAs wanted (check settings (pointAt n var x) (the nodes constraints k)) ⌝ }
 {
     let point = point_at(n, var, x);
     let passes = check_constraint(nodes, constraints, starts, k, &point[..n], settings, order);
@@ -138,7 +138,7 @@ fn first_sample(
 ) -> Found
     requires { ⌜ Ready (now nodes) (now constraints) (k + 1) (now starts) ⌝ }
     requires { ⌜ n ≤ 16 ⌝ }
-    ensures { λ r. ⌜ r ≡ first (λ x. answersAs wanted (check settings (pointAt n var x) (constraintAt (now (nodes .entry)) (now (constraints .entry)) k))) (now (samples .entry)) ⌝ }
+    ensures { λ r. ⌜ r ≡ first (λ x. answersAs wanted (check settings (pointAt n var x) (the nodes constraints k))) (now (samples .entry)) ⌝ }
 {
     let mut order = [0u16; 4096];
     let mut i: usize = 0;
@@ -194,7 +194,7 @@ fn is_refuted(
 ) -> bool
     requires { ⌜ Ready (now nodes) (now constraints) (k + 1) (now starts) ⌝ }
     requires { ⌜ boxes .count ≤ 16 ⌝ }
-    ensures { λ r. ⌜ r ≡ refutes settings (constraintAt (now (nodes .entry)) (now (constraints .entry)) k) (boxesOf boxes) ⌝ }
+    ensures { λ r. ⌜ r ≡ refutes settings (the nodes constraints k) (boxesOf boxes) ⌝ }
 {
     let n = boxes.count;
     let mut lo = boxes.lo;
@@ -225,7 +225,7 @@ pub fn decide_forall(
 ) -> Decided
     requires { ⌜ Ready (now nodes) (now constraints) (k + 1) (now starts) ⌝ }
     requires { ⌜ n ≤ 16 ⌝ }
-    ensures { λ r. ⌜ r ≡ decidedOf (decideForall settings var lo hi (constraintAt (now (nodes .entry)) (now (constraints .entry)) k) n) ⌝ }
+    ensures { λ r. ⌜ r ≡ decidedOf (decideForall settings var lo hi (the nodes constraints k) n) ⌝ }
 {
     let boxes = boxes_at(n, var, lo, hi);
     if is_refuted(nodes, constraints, starts, k, settings, boxes) {
@@ -261,7 +261,7 @@ pub fn decide_exists(
 ) -> Decided
     requires { ⌜ Ready (now nodes) (now constraints) (k + 1) (now starts) ⌝ }
     requires { ⌜ n ≤ 16 ⌝ }
-    ensures { λ r. ⌜ r ≡ decidedOf (decideExists settings var lo hi (constraintAt (now (nodes .entry)) (now (constraints .entry)) k) n) ⌝ }
+    ensures { λ r. ⌜ r ≡ decidedOf (decideExists settings var lo hi (the nodes constraints k) n) ⌝ }
 {
     let samples = exists_samples(lo, hi);
     match first_sample(

@@ -15,13 +15,12 @@ ghost use lib.ListN.{length, set};
 ghost use lib.Ieee.{Float};
 ghost use Rattle.number.specs.Sign.{absOf};
 ghost use Rattle.tree.specs.Refusal.{_or-else_};
-ghost use Rattle.constraint.specs.Records.{constraintAt};
 ghost use Rattle.constraint.specs.Starts.{Ready};
 ghost use Rattle.point.specs.Lent.{Lent};
 ghost use Rattle.point.specs.Check.{check};
 ghost use Rattle.point.specs.Residual.{residual};
 ghost use Rattle.interval.specs.Interval.{midpoint};
-ghost use Rattle.interval.specs.Boxes.{intervals, boxesOf};
+ghost use Rattle.interval.specs.Boxes.{boxesOf};
 ghost use Rattle.interval.specs.declared.Interval.{Interval as Box};
 ghost use Rattle.nra.specs.Working.{Working};
 ghost use Rattle.nra.specs.Answers.{problem, progressOf, goes, pointless as pointlessOf, refusedWith, solvedOf, stopNumber, tried};
@@ -32,13 +31,15 @@ ghost use Rattle.nra.specs.Calls.{limitRefusal, answeredBy, solveFile, s
 ghost use Rattle.nra.specs.Deciding.{rangeRefusal, decideForallGiven, decideExistsGiven};
 ghost use Rattle.nra.specs.Solver as Solver;
 ghost use Rattle.nra.specs.Solver.{assignment, Stopped};
+ghost use Rattle.constraint.specs.Views.{the};
+ghost use Rattle.interval.specs.Views.{before, after};
 
 // ---- the boxes, in two lists of ends
 
 // The midpoint of each box.
 fn midpoints(lo: &[f64], hi: &[f64], point: &mut [f64])
     requires { ⌜ (length (now hi) ≡ length (now lo)) × (length (now point) ≡ length (now lo)) ⌝ }
-    ensures { λ _. ⌜ now (point .exit) ≡ Solver.midpoints (intervals (now (lo .entry)) (now (hi .entry))) ⌝ }
+    ensures { λ _. ⌜ now (point .exit) ≡ Solver.midpoints (before lo hi) ⌝ }
 {
     let mut i: usize = 0;
     while i < lo.len() {
@@ -51,7 +52,7 @@ fn midpoints(lo: &[f64], hi: &[f64], point: &mut [f64])
 // Whether every box is narrower than the tolerance.
 fn all_below(tolerance: f64, lo: &[f64], hi: &[f64]) -> bool
     requires { ⌜ length (now hi) ≡ length (now lo) ⌝ }
-    ensures { λ r. ⌜ r ≡ Solver.allBelow tolerance (intervals (now (lo .entry)) (now (hi .entry))) ⌝ }
+    ensures { λ r. ⌜ r ≡ Solver.allBelow tolerance (before lo hi) ⌝ }
 {
     let mut i: usize = 0;
     while i < lo.len() {
@@ -68,7 +69,7 @@ fn all_below(tolerance: f64, lo: &[f64], hi: &[f64]) -> bool
 // The number of the last widest box.
 fn widest(lo: &[f64], hi: &[f64]) -> usize
     requires { ⌜ length (now hi) ≡ length (now lo) ⌝ }
-    ensures { λ r. ⌜ r ≡ Solver.widest (intervals (now (lo .entry)) (now (hi .entry))) ⌝ }
+    ensures { λ r. ⌜ r ≡ Solver.widest (before lo hi) ⌝ }
 {
     let mut at: usize = 0;
     let mut most = interval::box_at(lo, hi, 0).width();
@@ -100,7 +101,7 @@ fn distance(
 ) -> f64
     requires { ⌜ Ready (now nodes) (now constraints) (k + 1) (now starts) ⌝ }
     requires { ⌜ Lent (now nodes) (now point) (now order) ⌝ }
-    ensures { λ r. ⌜ r ≡ absOf (residual settings (now (point .entry)) (constraintAt (now (nodes .entry)) (now (constraints .entry)) k)) ⌝ }
+    ensures { λ r. ⌜ r ≡ absOf (residual settings (now (point .entry)) (the nodes constraints k)) ⌝ }
 {
     let r = evaluate_constraint_residual(nodes, constraints, starts, k, point, settings, order);
     number::abs(r)
@@ -120,7 +121,7 @@ fn residual_in(
 ) -> f64
     requires { ⌜ Ready (now nodes) (now constraints) (k + 1) (now starts) ⌝ }
     requires { ⌜ Lent (now nodes) (now point) (now order) × (w < length (now point)) ⌝ }
-    ensures { λ r. ⌜ r ≡ absOf (residual settings (set (now (point .entry)) w (midpoint half)) (constraintAt (now (nodes .entry)) (now (constraints .entry)) k)) ⌝ }
+    ensures { λ r. ⌜ r ≡ absOf (residual settings (set (now (point .entry)) w (midpoint half)) (the nodes constraints k)) ⌝ }
     ensures { λ _. ⌜ now (point .exit) ≡ set (now (point .entry)) w (midpoint half) ⌝ }
 {
     point[w] = half.midpoint();
@@ -142,7 +143,7 @@ fn better(
 ) -> Interval
     requires { ⌜ Ready (now nodes) (now constraints) (k + 1) (now starts) ⌝ }
     requires { ⌜ Working (now lo) (now hi) (now point) (now order) × (w < length (now lo)) ⌝ }
-    ensures { λ r. ⌜ r ≡ Solver.better settings (constraintAt (now (nodes .entry)) (now (constraints .entry)) k) (intervals (now (lo .entry)) (now (hi .entry))) w ⌝ }
+    ensures { λ r. ⌜ r ≡ Solver.better settings (the nodes constraints k) (before lo hi) w ⌝ }
 {
     midpoints(lo, hi, point);
     let halves = interval::box_at(lo, hi, w).split();
@@ -190,7 +191,7 @@ fn halve_widest(
 )
     requires { ⌜ Ready (now nodes) (now constraints) (k + 1) (now starts) ⌝ }
     requires { ⌜ Working (now lo) (now hi) (now point) (now order) ⌝ }
-    ensures { λ _. ⌜ intervals (now (lo .exit)) (now (hi .exit)) ≡ Solver.halved settings (constraintAt (now (nodes .entry)) (now (constraints .entry)) k) (intervals (now (lo .entry)) (now (hi .entry))) ⌝ }
+    ensures { λ _. ⌜ after lo hi ≡ Solver.halved settings (the nodes constraints k) (before lo hi) ⌝ }
 {
     let w = widest(lo, hi);
     let half = better(
@@ -236,7 +237,7 @@ fn begin_checked(
 ) -> Step
     requires { ⌜ Ready (now nodes) (now constraints) (k + 1) (now starts) ⌝ }
     requires { ⌜ Working (now lo) (now hi) (now point) (now order) ⌝ }
-    ensures { λ r. ⌜ ((bounds : List Box) → progressOf r (intervals (now (lo .entry)) (now (hi .entry))) 0 ≡ Solver.beginChecked (problem (constraintAt (now (nodes .entry)) (now (constraints .entry)) k) bounds tolerance) (intervals (now (lo .entry)) (now (hi .entry))) (check settings (Solver.midpoints (intervals (now (lo .entry)) (now (hi .entry)))) (constraintAt (now (nodes .entry)) (now (constraints .entry)) k))) ⌝ }
+    ensures { λ r. ⌜ ((bounds : List Box) → progressOf r (before lo hi) 0 ≡ Solver.beginChecked (problem (the nodes constraints k) bounds tolerance) (before lo hi) (check settings (Solver.midpoints (before lo hi)) (the nodes constraints k))) ⌝ }
 {
     midpoints(lo, hi, point);
     if check_constraint(nodes, constraints, starts, k, point, settings, order) {
@@ -260,7 +261,7 @@ fn settle_checked(
 ) -> Step
     requires { ⌜ Ready (now nodes) (now constraints) (k + 1) (now starts) ⌝ }
     requires { ⌜ Working (now lo) (now hi) (now point) (now order) ⌝ }
-    ensures { λ r. ⌜ ((bounds : List Box) (h : ℕ) → progressOf r (intervals (now (lo .entry)) (now (hi .entry))) h ≡ Solver.settleChecked settings (problem (constraintAt (now (nodes .entry)) (now (constraints .entry)) k) bounds tolerance) h (intervals (now (lo .entry)) (now (hi .entry))) (check settings (Solver.midpoints (intervals (now (lo .entry)) (now (hi .entry)))) (constraintAt (now (nodes .entry)) (now (constraints .entry)) k)) (Solver.allBelow tolerance (intervals (now (lo .entry)) (now (hi .entry))))) ⌝ }
+    ensures { λ r. ⌜ ((bounds : List Box) (h : ℕ) → progressOf r (before lo hi) h ≡ Solver.settleChecked settings (problem (the nodes constraints k) bounds tolerance) h (before lo hi) (check settings (Solver.midpoints (before lo hi)) (the nodes constraints k)) (Solver.allBelow tolerance (before lo hi))) ⌝ }
 {
     midpoints(lo, hi, point);
     if check_constraint(nodes, constraints, starts, k, point, settings, order) {
@@ -287,7 +288,7 @@ fn begin(
 ) -> Step
     requires { ⌜ Ready (now nodes) (now constraints) (k + 1) (now starts) ⌝ }
     requires { ⌜ Working (now lo) (now hi) (now point) (now order) ⌝ }
-    ensures { λ r. ⌜ ((bounds : List Box) → progressOf r (intervals (now (lo .exit)) (now (hi .exit))) 0 ≡ Solver.beginIn settings (problem (constraintAt (now (nodes .entry)) (now (constraints .entry)) k) bounds tolerance) (intervals (now (lo .entry)) (now (hi .entry)))) ⌝ }
+    ensures { λ r. ⌜ ((bounds : List Box) → progressOf r (after lo hi) 0 ≡ Solver.beginIn settings (problem (the nodes constraints k) bounds tolerance) (before lo hi)) ⌝ }
 {
     match narrow::propagate(settings, nodes, constraints, starts, k, lo, hi) {
         PropResult::Conflict => Step::Conflict,
@@ -333,7 +334,7 @@ fn settle(
 ) -> Step
     requires { ⌜ Ready (now nodes) (now constraints) (k + 1) (now starts) ⌝ }
     requires { ⌜ Working (now lo) (now hi) (now point) (now order) ⌝ }
-    ensures { λ r. ⌜ ((bounds : List Box) (h : ℕ) → progressOf r (intervals (now (lo .exit)) (now (hi .exit))) h ≡ Solver.settleIn settings (problem (constraintAt (now (nodes .entry)) (now (constraints .entry)) k) bounds tolerance) h (intervals (now (lo .entry)) (now (hi .entry)))) ⌝ }
+    ensures { λ r. ⌜ ((bounds : List Box) (h : ℕ) → progressOf r (after lo hi) h ≡ Solver.settleIn settings (problem (the nodes constraints k) bounds tolerance) h (before lo hi)) ⌝ }
 {
     match narrow::propagate(settings, nodes, constraints, starts, k, lo, hi) {
         PropResult::Conflict => Step::Conflict,
@@ -379,7 +380,7 @@ fn halve(
 ) -> Step
     requires { ⌜ Ready (now nodes) (now constraints) (k + 1) (now starts) ⌝ }
     requires { ⌜ Working (now lo) (now hi) (now point) (now order) ⌝ }
-    ensures { λ r. ⌜ ((bounds : List Box) (h : ℕ) → progressOf r (intervals (now (lo .exit)) (now (hi .exit))) (h + 1) ≡ Solver.halve settings (problem (constraintAt (now (nodes .entry)) (now (constraints .entry)) k) bounds tolerance) (record { boxes = (intervals (now (lo .entry)) (now (hi .entry))); halvings = h })) ⌝ }
+    ensures { λ r. ⌜ ((bounds : List Box) (h : ℕ) → progressOf r (after lo hi) (h + 1) ≡ Solver.halve settings (problem (the nodes constraints k) bounds tolerance) (record { boxes = before lo hi; halvings = h })) ⌝ }
 {
     halve_widest(
         nodes,
@@ -441,7 +442,7 @@ fn run(
 ) -> Ended
     requires { ⌜ Ready (now nodes) (now constraints) (k + 1) (now starts) ⌝ }
     requires { ⌜ Working (now lo) (now hi) (now point) (now order) ⌝ }
-    ensures { λ r. ⌜ ((bounds : List Box) → Solver.run settings (problem (constraintAt (now (nodes .entry)) (now (constraints .entry)) k) bounds tolerance) 0 (progressOf (r .step) (intervals (now (lo .exit)) (now (hi .exit))) (r .halvings)) ≡ Solver.run settings (problem (constraintAt (now (nodes .entry)) (now (constraints .entry)) k) bounds tolerance) limit (progressOf first (intervals (now (lo .entry)) (now (hi .entry))) 0)) ⌝ }
+    ensures { λ r. ⌜ ((bounds : List Box) → Solver.run settings (problem (the nodes constraints k) bounds tolerance) 0 (progressOf (r .step) (after lo hi) (r .halvings)) ≡ Solver.run settings (problem (the nodes constraints k) bounds tolerance) limit (progressOf first (before lo hi) 0)) ⌝ }
 {
     let mut step = first;
     let mut h: usize = 0;
@@ -481,7 +482,7 @@ fn at_limit(
 ) -> Step
     requires { ⌜ Ready (now nodes) (now constraints) (k + 1) (now starts) ⌝ }
     requires { ⌜ Working (now lo) (now hi) (now point) (now order) ⌝ }
-    ensures { λ r. ⌜ ((bounds : List Box) (tolerance : Float) (h : ℕ) → progressOf r (intervals (now (lo .entry)) (now (hi .entry))) h ≡ Stopped (Solver.run settings (problem (constraintAt (now (nodes .entry)) (now (constraints .entry)) k) bounds tolerance) 0 (progressOf step (intervals (now (lo .entry)) (now (hi .entry))) h))) ⌝ }
+    ensures { λ r. ⌜ ((bounds : List Box) (tolerance : Float) (h : ℕ) → progressOf r (before lo hi) h ≡ Stopped (Solver.run settings (problem (the nodes constraints k) bounds tolerance) 0 (progressOf step (before lo hi) h))) ⌝ }
 {
     if !is_going(step) {
         return step;
@@ -506,7 +507,7 @@ fn search(
 ) -> Ended
     requires { ⌜ Ready (now nodes) (now constraints) (k + 1) (now starts) ⌝ }
     requires { ⌜ Working (now lo) (now hi) (now point) (now order) ⌝ }
-    ensures { λ r. ⌜ ((bounds : List Box) → progressOf (r .step) (intervals (now (lo .exit)) (now (hi .exit))) (r .halvings) ≡ Stopped (Solver.run settings (problem (constraintAt (now (nodes .entry)) (now (constraints .entry)) k) bounds tolerance) limit (Solver.beginIn settings (problem (constraintAt (now (nodes .entry)) (now (constraints .entry)) k) bounds tolerance) (intervals (now (lo .entry)) (now (hi .entry)))))) ⌝ }
+    ensures { λ r. ⌜ ((bounds : List Box) → progressOf (r .step) (after lo hi) (r .halvings) ≡ Stopped (Solver.run settings (problem (the nodes constraints k) bounds tolerance) limit (Solver.beginIn settings (problem (the nodes constraints k) bounds tolerance) (before lo hi)))) ⌝ }
 {
     let first = begin(
         nodes,
@@ -612,7 +613,7 @@ fn refused(n: u8) -> Solved
 // The midpoint of the boxes is an assignment.
 fn assigned(exact: bool, halvings: usize, lo: &[f64], hi: &[f64]) -> Solved
     requires { ⌜ (length (now hi) ≡ length (now lo)) × (length (now lo) ≤ 16) ⌝ }
-    ensures { λ r. ⌜ r ≡ solvedOf (assignment (Solver.midpoints (intervals (now (lo .entry)) (now (hi .entry)))) exact halvings) ⌝ }
+    ensures { λ r. ⌜ r ≡ solvedOf (assignment (Solver.midpoints (before lo hi)) exact halvings) ⌝ }
 {
     let count = lo.len();
     let mut point = [0.0; 16];
@@ -631,7 +632,7 @@ fn assigned(exact: bool, halvings: usize, lo: &[f64], hi: &[f64]) -> Solved
 // The answer of a run that has ended. Under limit 0 no point is exact.
 fn answer_of(limit: usize, e: Ended, lo: &[f64], hi: &[f64]) -> Solved
     requires { ⌜ (length (now hi) ≡ length (now lo)) × (length (now lo) ≤ 16) ⌝ }
-    ensures { λ r. ⌜ ((a : Solver.Answer) → progressOf (e .step) (intervals (now (lo .entry)) (now (hi .entry))) (e .halvings) ≡ Stopped a → r ≡ solvedOf (tried limit a)) ⌝ }
+    ensures { λ r. ⌜ ((a : Solver.Answer) → progressOf (e .step) (before lo hi) (e .halvings) ≡ Stopped a → r ≡ solvedOf (tried limit a)) ⌝ }
 {
     let step = e.step;
     let h = e.halvings;
@@ -655,7 +656,7 @@ fn solve_empty(
     settings: Settings,
 ) -> Solved
     requires { ⌜ Ready (now nodes) (now constraints) (k + 1) (now starts) ⌝ }
-    ensures { λ r. ⌜ r ≡ solvedOf (Solver.beginEmpty (check settings [] (constraintAt (now (nodes .entry)) (now (constraints .entry)) k))) ⌝ }
+    ensures { λ r. ⌜ r ≡ solvedOf (Solver.beginEmpty (check settings [] (the nodes constraints k))) ⌝ }
 {
     let point = [0.0; 16];
     let mut order = [0u16; 4096];
@@ -694,7 +695,7 @@ fn solve_boxes(
 ) -> Solved
     requires { ⌜ Ready (now nodes) (now constraints) (k + 1) (now starts) ⌝ }
     requires { ⌜ (0 < boxes .count) × (boxes .count ≤ 16) ⌝ }
-    ensures { λ r. ⌜ ((bounds : List Box) → r ≡ solvedOf (tried limit (Solver.run settings (problem (constraintAt (now (nodes .entry)) (now (constraints .entry)) k) bounds tolerance) limit (Solver.beginIn settings (problem (constraintAt (now (nodes .entry)) (now (constraints .entry)) k) bounds tolerance) (boxesOf boxes))))) ⌝ }
+    ensures { λ r. ⌜ ((bounds : List Box) → r ≡ solvedOf (tried limit (Solver.run settings (problem (the nodes constraints k) bounds tolerance) limit (Solver.beginIn settings (problem (the nodes constraints k) bounds tolerance) (boxesOf boxes))))) ⌝ }
 {
     let n = boxes.count;
     let mut lo = boxes.lo;
@@ -731,7 +732,7 @@ fn solve_in(
 ) -> Solved
     requires { ⌜ Ready (now nodes) (now constraints) (k + 1) (now starts) ⌝ }
     requires { ⌜ length (now hi) ≡ length (now lo) ⌝ }
-    ensures { λ r. ⌜ r ≡ solvedOf (Solver.solve settings (problem (constraintAt (now (nodes .entry)) (now (constraints .entry)) k) (intervals (now (lo .entry)) (now (hi .entry))) tolerance) limit) ⌝ }
+    ensures { λ r. ⌜ r ≡ solvedOf (Solver.solve settings (problem (the nodes constraints k) (before lo hi) tolerance) limit) ⌝ }
 {
     let n = constraint::num_vars(nodes, constraints, starts, k);
     if n == 0 {

@@ -11,6 +11,7 @@ ghost use Rattle.tree.specs.Tree.{size};
 ghost use Rattle.tree.specs.Nodes.{Valid, treeAt};
 ghost use Rattle.point.specs.Eval.{clamped, beyond, emlComplex, evalComplex, realPart, evalReal};
 ghost use Rattle.point.specs.Machine.{instructionOf, instructions, Flattened, Runs, run as running, result};
+ghost use Rattle.tree.specs.Views.{treeOf};
 
 pub enum Instruction {
     PushOne,
@@ -54,7 +55,7 @@ fn instruction_of(node: Node) -> Instruction
 fn flatten_postorder(nodes: &[u8], k: usize, order: &mut [u16], at: usize) -> usize
     requires { ⌜ Valid (now nodes) (k + 1) ⌝ }
     requires { ⌜ at + size (treeAt (now nodes) k) ≤ length (now order) ⌝ }
-    ensures { λ r. ⌜ Flattened (now (nodes .entry)) (now (order .entry)) (now (order .exit)) at r (treeAt (now (nodes .entry)) k) ⌝ }
+    ensures { λ r. ⌜ Flattened (now (nodes .entry)) (now (order .entry)) (now (order .exit)) at r (treeOf nodes k) ⌝ }
 {
     let Node::Eml(left, right) = tree::node_in(nodes, k) else {
         order[at] = k as u16;
@@ -184,7 +185,7 @@ pub fn eval_complex(
 ) -> EvaluatedComplex
     requires { ⌜ Valid (now nodes) (k + 1) ⌝ }
     requires { ⌜ size (treeAt (now nodes) k) ≤ length (now order) ⌝ }
-    ensures { λ x. ⌜ x ≡ evalComplex settings (now (point .entry)) (treeAt (now (nodes .entry)) k) ⌝ }
+    ensures { λ x. ⌜ x ≡ evalComplex settings (now (point .entry)) (treeOf nodes k) ⌝ }
 {
     let n = flatten_postorder(nodes, k, order, 0);
     if n < 32 {
@@ -219,7 +220,7 @@ pub fn eval_real(
 ) -> Evaluated
     requires { ⌜ Valid (now nodes) (k + 1) ⌝ }
     requires { ⌜ size (treeAt (now nodes) k) ≤ length (now order) ⌝ }
-    ensures { λ x. ⌜ x ≡ evalReal settings (now (point .entry)) (treeAt (now (nodes .entry)) k) ⌝ }
+    ensures { λ x. ⌜ x ≡ evalReal settings (now (point .entry)) (treeOf nodes k) ⌝ }
 {
     match eval_complex(nodes, k, point, settings, order) {
         EvaluatedComplex::Value(z) => real_part(z),

@@ -14,12 +14,13 @@ ghost use Rattle.number.specs.Halving.{mid};
 ghost use Rattle.tree.specs.Tree.{size};
 ghost use Rattle.tree.specs.Nodes.{Valid, treeAt};
 ghost use Rattle.constraint.specs.Constraint.{ForAll, Exists};
-ghost use Rattle.constraint.specs.Records.{constraintAt, gather};
-ghost use Rattle.constraint.specs.Starts.{Ready, Taken, upTo};
+ghost use Rattle.constraint.specs.Starts.{Ready, Taken};
 ghost use Rattle.point.specs.Eval.{evalReal};
 ghost use Rattle.point.specs.Check.{holds as holdsOf, passes, check, checkAll, checkAny};
 ghost use Rattle.point.specs.Residual.{shortfall as shortfallOf, errorValue, valueOr, residual, residualSum, residualLeast};
 ghost use Rattle.point.specs.Lent.{Lent};
+ghost use Rattle.tree.specs.Views.{treeOf};
+ghost use Rattle.constraint.specs.Views.{those, the};
 
 // The point with variable v at x, in the first places.
 fn sampled(point: &[f64], v: usize, x: f64) -> [f64; 16]
@@ -69,7 +70,7 @@ fn check_atom(
 ) -> bool
     requires { ⌜ Valid (now nodes) (i + 1) ⌝ }
     requires { ⌜ size (treeAt (now nodes) i) ≤ length (now order) ⌝ }
-    ensures { λ r. ⌜ r ≡ passes settings relation (evalReal settings (now (point .entry)) (treeAt (now (nodes .entry)) i)) ⌝ }
+    ensures { λ r. ⌜ r ≡ passes settings relation (evalReal settings (now (point .entry)) (treeOf nodes i)) ⌝ }
 {
     match super::eval::eval_real(nodes, i, point, settings, order) {
         Evaluated::Value(v) => holds(relation, v, settings),
@@ -88,7 +89,7 @@ pub fn check_constraint(
 ) -> bool
     requires { ⌜ Ready (now nodes) (now constraints) (k + 1) (now starts) ⌝ }
     requires { ⌜ Lent (now nodes) (now point) (now order) ⌝ }
-    ensures { λ r. ⌜ r ≡ check settings (now (point .entry)) (constraintAt (now (nodes .entry)) (now (constraints .entry)) k) ⌝ }
+    ensures { λ r. ⌜ r ≡ check settings (now (point .entry)) (the nodes constraints k) ⌝ }
 {
     match constraint::record_in(constraints, k) {
         Record::Atom(relation, i) => check_atom(nodes, relation, i, point, settings, order),
@@ -135,7 +136,7 @@ fn check_all(
 ) -> bool
     requires { ⌜ Taken (now nodes) (now constraints) m n (now starts) ⌝ }
     requires { ⌜ Lent (now nodes) (now point) (now order) ⌝ }
-    ensures { λ r. ⌜ r ≡ checkAll settings (now (point .entry)) (gather (upTo (now (nodes .entry)) (now (constraints .entry)) m n)) ⌝ }
+    ensures { λ r. ⌜ r ≡ checkAll settings (now (point .entry)) (those nodes constraints m n) ⌝ }
 {
     if m == 0 {
         return true;
@@ -160,7 +161,7 @@ fn check_any(
 ) -> bool
     requires { ⌜ Taken (now nodes) (now constraints) m n (now starts) ⌝ }
     requires { ⌜ Lent (now nodes) (now point) (now order) ⌝ }
-    ensures { λ r. ⌜ r ≡ checkAny settings (now (point .entry)) (gather (upTo (now (nodes .entry)) (now (constraints .entry)) m n)) ⌝ }
+    ensures { λ r. ⌜ r ≡ checkAny settings (now (point .entry)) (those nodes constraints m n) ⌝ }
 {
     if m == 0 {
         return false;
@@ -187,7 +188,7 @@ fn check_at(
 ) -> bool
     requires { ⌜ Ready (now nodes) (now constraints) (k + 1) (now starts) ⌝ }
     requires { ⌜ Lent (now nodes) (now point) (now order) ⌝ }
-    ensures { λ r. ⌜ r ≡ check settings (set (now (point .entry)) v x) (constraintAt (now (nodes .entry)) (now (constraints .entry)) k) ⌝ }
+    ensures { λ r. ⌜ r ≡ check settings (set (now (point .entry)) v x) (the nodes constraints k) ⌝ }
 {
     let inner = sampled(point, v, x);
     let n = point.len();
@@ -208,7 +209,7 @@ fn check_for_all(
 ) -> bool
     requires { ⌜ Ready (now nodes) (now constraints) (k + 1) (now starts) ⌝ }
     requires { ⌜ Lent (now nodes) (now point) (now order) ⌝ }
-    ensures { λ r. ⌜ r ≡ check settings (now (point .entry)) (ForAll v lo hi (constraintAt (now (nodes .entry)) (now (constraints .entry)) k)) ⌝ }
+    ensures { λ r. ⌜ r ≡ check settings (now (point .entry)) (ForAll v lo hi (the nodes constraints k)) ⌝ }
 {
     if !check_at(nodes, constraints, starts, k, v, lo, point, settings, order) {
         return false;
@@ -243,7 +244,7 @@ fn check_exists(
 ) -> bool
     requires { ⌜ Ready (now nodes) (now constraints) (k + 1) (now starts) ⌝ }
     requires { ⌜ Lent (now nodes) (now point) (now order) ⌝ }
-    ensures { λ r. ⌜ r ≡ check settings (now (point .entry)) (Exists v lo hi (constraintAt (now (nodes .entry)) (now (constraints .entry)) k)) ⌝ }
+    ensures { λ r. ⌜ r ≡ check settings (now (point .entry)) (Exists v lo hi (the nodes constraints k)) ⌝ }
 {
     if check_at(nodes, constraints, starts, k, v, lo, point, settings, order) {
         return true;
@@ -303,7 +304,7 @@ fn residual_of_atom(
 ) -> f64
     requires { ⌜ Valid (now nodes) (i + 1) ⌝ }
     requires { ⌜ size (treeAt (now nodes) i) ≤ length (now order) ⌝ }
-    ensures { λ r. ⌜ r ≡ shortfallOf relation (valueOr (errorValue relation) (evalReal settings (now (point .entry)) (treeAt (now (nodes .entry)) i))) ⌝ }
+    ensures { λ r. ⌜ r ≡ shortfallOf relation (valueOr (errorValue relation) (evalReal settings (now (point .entry)) (treeOf nodes i))) ⌝ }
 {
     match super::eval::eval_real(nodes, i, point, settings, order) {
         Evaluated::Value(v) => shortfall(relation, v),
@@ -322,7 +323,7 @@ pub fn evaluate_constraint_residual(
 ) -> f64
     requires { ⌜ Ready (now nodes) (now constraints) (k + 1) (now starts) ⌝ }
     requires { ⌜ Lent (now nodes) (now point) (now order) ⌝ }
-    ensures { λ r. ⌜ r ≡ residual settings (now (point .entry)) (constraintAt (now (nodes .entry)) (now (constraints .entry)) k) ⌝ }
+    ensures { λ r. ⌜ r ≡ residual settings (now (point .entry)) (the nodes constraints k) ⌝ }
 {
     match constraint::record_in(constraints, k) {
         Record::Atom(relation, i) => residual_of_atom(nodes, relation, i, point, settings, order),
@@ -380,7 +381,7 @@ fn residual_sum(
 ) -> f64
     requires { ⌜ Taken (now nodes) (now constraints) m n (now starts) ⌝ }
     requires { ⌜ Lent (now nodes) (now point) (now order) ⌝ }
-    ensures { λ r. ⌜ r ≡ residualSum settings (now (point .entry)) (whole 0) (gather (upTo (now (nodes .entry)) (now (constraints .entry)) m n)) ⌝ }
+    ensures { λ r. ⌜ r ≡ residualSum settings (now (point .entry)) (whole 0) (those nodes constraints m n) ⌝ }
 {
     if m == 0 {
         return 0.0;
@@ -412,7 +413,7 @@ fn residual_least(
 ) -> f64
     requires { ⌜ Taken (now nodes) (now constraints) m n (now starts) ⌝ }
     requires { ⌜ Lent (now nodes) (now point) (now order) ⌝ }
-    ensures { λ r. ⌜ r ≡ residualLeast settings (now (point .entry)) +∞ (gather (upTo (now (nodes .entry)) (now (constraints .entry)) m n)) ⌝ }
+    ensures { λ r. ⌜ r ≡ residualLeast settings (now (point .entry)) +∞ (those nodes constraints m n) ⌝ }
 {
     if m == 0 {
         return 1.0 / 0.0;
@@ -448,7 +449,7 @@ fn residual_at(
 ) -> f64
     requires { ⌜ Ready (now nodes) (now constraints) (k + 1) (now starts) ⌝ }
     requires { ⌜ Lent (now nodes) (now point) (now order) ⌝ }
-    ensures { λ r. ⌜ r ≡ absOf (residual settings (set (now (point .entry)) v x) (constraintAt (now (nodes .entry)) (now (constraints .entry)) k)) ⌝ }
+    ensures { λ r. ⌜ r ≡ absOf (residual settings (set (now (point .entry)) v x) (the nodes constraints k)) ⌝ }
 {
     let inner = sampled(point, v, x);
     let n = point.len();
@@ -477,7 +478,7 @@ fn residual_for_all(
 ) -> f64
     requires { ⌜ Ready (now nodes) (now constraints) (k + 1) (now starts) ⌝ }
     requires { ⌜ Lent (now nodes) (now point) (now order) ⌝ }
-    ensures { λ r. ⌜ r ≡ residual settings (now (point .entry)) (ForAll v lo hi (constraintAt (now (nodes .entry)) (now (constraints .entry)) k)) ⌝ }
+    ensures { λ r. ⌜ r ≡ residual settings (now (point .entry)) (ForAll v lo hi (the nodes constraints k)) ⌝ }
 {
     let a = residual_at(nodes, constraints, starts, k, v, lo, point, settings, order);
     let b = residual_at(
@@ -509,7 +510,7 @@ fn residual_exists(
 ) -> f64
     requires { ⌜ Ready (now nodes) (now constraints) (k + 1) (now starts) ⌝ }
     requires { ⌜ Lent (now nodes) (now point) (now order) ⌝ }
-    ensures { λ r. ⌜ r ≡ residual settings (now (point .entry)) (Exists v lo hi (constraintAt (now (nodes .entry)) (now (constraints .entry)) k)) ⌝ }
+    ensures { λ r. ⌜ r ≡ residual settings (now (point .entry)) (Exists v lo hi (the nodes constraints k)) ⌝ }
 {
     let a = residual_at(nodes, constraints, starts, k, v, lo, point, settings, order);
     let b = residual_at(

@@ -12,6 +12,7 @@ ghost use Rattle.tree.specs.Tree.{size};
 ghost use Rattle.tree.specs.Nodes.{Valid, treeAt};
 ghost use Rattle.point.specs.Eval.{evalReal};
 ghost use Rattle.point.specs.Answer.{evalRefusal, evalAnswer, checkAnswer, residualAnswer};
+ghost use Rattle.tree.specs.Views.{treeOf};
 
 // A refusal is document 01's number.
 pub enum EvalAnswer {
@@ -40,7 +41,7 @@ fn refused(refusal: u8) -> Tested
 // The tests of eval_real, and where they pass a size that the node's tree is not above.
 fn eval_tested(nodes: &[u8], k: usize, point: &[f64]) -> Tested
     ensures { λ r. ⌜ r .refusal ≡ evalRefusal (now (nodes .entry)) k (now (point .entry)) ⌝ }
-    ensures { λ r. ⌜ (r .refusal ≡ 0 → size (treeAt (now (nodes .entry)) k) ≤ r .largest) ⌝ }
+    ensures { λ r. ⌜ (r .refusal ≡ 0 → size (treeOf nodes k) ≤ r .largest) ⌝ }
 {
     let count = nodes.len() / 16;
     let over = nodes.len() % 16;
@@ -63,7 +64,7 @@ fn eval_tested(nodes: &[u8], k: usize, point: &[f64]) -> Tested
 // The tree is of at most that size. Room for a short postorder is made sooner.
 fn eval_usual(nodes: &[u8], k: usize, point: &[f64], largest: usize) -> Evaluated
     requires { ⌜ Valid (now nodes) (k + 1) × (size (treeAt (now nodes) k) ≤ largest) ⌝ }
-    ensures { λ x. ⌜ x ≡ evalReal usual (now (point .entry)) (treeAt (now (nodes .entry)) k) ⌝ }
+    ensures { λ x. ⌜ x ≡ evalReal usual (now (point .entry)) (treeOf nodes k) ⌝ }
 {
     if largest <= 64 {
         let mut order = [0u16; 64];

@@ -1,8 +1,10 @@
 pub mod Bytes
 pub mod Refusal
+pub mod Leaving
 pub mod RefusalLaws
 pub mod Tree
 pub mod Nodes
+pub mod Views
 pub mod NodeLaws
 pub mod Frame
 pub mod Code

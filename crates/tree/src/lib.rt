@@ -1,6 +1,6 @@
 // Numbered nodes (document 01, "The file"): their records, the tests of a list of nodes, and what `Canonical` (canonical.rs) appends to one.
 ghost use mathlib.Core.Path.{_≡_};
-ghost use Prim.Native.Nat.{ℕ, max, _+_, _*_, _≤_, _<_};
+ghost use Prim.Native.Nat.{max, _+_, _*_, _≤_, _<_};
 ghost use mathlib.Core.List.{_++_};
 ghost use lib.ListN.{length, getD};
 ghost use lib.Seq.{sets};
@@ -9,10 +9,11 @@ ghost use lib.Ieee.Scale.{finite};
 ghost use Rattle.tree.specs.Bytes.{u32At, u64At, f64At, u32Bytes};
 ghost use Rattle.tree.specs.Refusal.{passing, filled};
 ghost use Rattle.tree.specs.Tree.{treeVars};
-ghost use Rattle.tree.specs.Nodes.{nodeAt, isNode, treeAt, nodeRefusal, nodesRefusal, nodesFit, listRefusal, Valid};
+ghost use Rattle.tree.specs.Nodes.{nodeAt, isNode, nodeRefusal, nodesRefusal, nodesFit, listRefusal, Valid};
 ghost use Rattle.tree.specs.Code.{rightEnd, leftEnd, chosen, sizeAt, depthAt, sizeBy, depthBy, Known, KnownBoth, Within, Measured, operandsRefusal, resultRefusal};
 ghost use Rattle.tree.specs.Canonical.{_leaving_, nodeBytes, nodesBytes, lnNodes, subNodes, lnRefusal, subRefusal, ln as lnOutcome, sub as subOutcome};
 ghost use Rattle.tree.specs.Fingerprint.{mix as mixed, mixFloat as mixedFloat, fingerprint as printOf};
+ghost use Rattle.tree.specs.Views.{treeOf};
 
 // What a node's record says: a constant, a variable's index, the numbers of two children.
 pub enum Node {
@@ -266,7 +267,7 @@ pub fn test_list(nodes: &[u8], count: usize) -> u8
 // The number of variables of node k's tree.
 pub fn num_vars(nodes: &[u8], k: usize) -> usize
     requires { ⌜ Valid (now nodes) (k + 1) ⌝ }
-    ensures { λ r. ⌜ r ≡ treeVars (treeAt (now (nodes .entry)) k) ⌝ }
+    ensures { λ r. ⌜ r ≡ treeVars (treeOf nodes k) ⌝ }
 {
     match node_in(nodes, k) {
         Node::One => 0,
@@ -300,7 +301,7 @@ pub fn mix_f64(h: u32, v: f64) -> u32
 // The fingerprint of node k's tree.
 pub fn fingerprint(nodes: &[u8], k: usize) -> u32
     requires { ⌜ Valid (now nodes) (k + 1) ⌝ }
-    ensures { λ r. ⌜ r ≡ printOf (treeAt (now (nodes .entry)) k) ⌝ }
+    ensures { λ r. ⌜ r ≡ printOf (treeOf nodes k) ⌝ }
 {
     match node_in(nodes, k) {
         Node::One => mix(1, 0),
@@ -339,7 +340,7 @@ fn refused(refusal: u8) -> Operands
 // The list's own tests, then 3 unless x and y name nodes.
 fn measure_operands(nodes: &[u8], count: usize, x: usize, y: usize) -> Operands
     ensures { λ r. ⌜ r .refusal ≡ operandsRefusal (now (nodes .entry)) count x y ⌝ }
-    ensures { λ r. ⌜ (r .refusal ≡ 0 → Measured (treeAt (now (nodes .entry)) x) (r .x) × Measured (treeAt (now (nodes .entry)) y) (r .y)) ⌝ }
+    ensures { λ r. ⌜ (r .refusal ≡ 0 → Measured (treeOf nodes x) (r .x) × Measured (treeOf nodes y) (r .y)) ⌝ }
 {
     if !nodes_fit(nodes.len(), count) {
         return refused(2);
