@@ -12,7 +12,7 @@ use borrow.Author.Tests.{le-ltb, le-leb, lt-leb}
 use mir.Syntax.{w64}
 use mir.Val.{Fits, SFits}
 use mir.ValLaws.{toZ-ofZ}
-use lib.Ieee.{fin, binary64, up, minus, size, ofBits, toBits, nanBits, fits}
+use lib.Ieee.{fin, binary64, minus, size, ofBits, toBits, nanBits, fits}
 use Rattle.number.specs.Cast.{again}
 use Rattle.number.specs.Next.{no-nan-below}
 use Rattle.maths.proofs.Digits.{digits, normal, fits-i, read-back}

@@ -1,6 +1,6 @@
 -- exp, ln, sine and cosine where they need no series: at the zeros and at 1. Assumes nothing.
 use Prim.Native.Nat.{ℕ, zero, suc, _*_, _^_}
-use mathlib.Core.Path.{_≡_, refl, sym, ap, _∙_}
+use mathlib.Core.Path.{_≡_, refl, ap, _∙_}
 use mathlib.Core.Bool.{Bool, true, false}
 use mathlib.Core.Logic.{⊎-elim}
 use native.Mathlib.Nat.{mul-pos, pow-suc, zero-lt-suc, zero-mul}
@@ -8,10 +8,10 @@ use lib.Pow.{pow-pos}
 use native.Mathlib.Omega.{arith}
 use lib.Dec.{T, eqb, eqb→eq}
 use lib.IntN.{ℤ, pos, negsuc}
-use lib.Ieee.{Float, nan, inf, fin, binary64, eq, up, down, fits, ofInt}
+use lib.Ieee.{Float, nan, inf, fin, binary64, eq, up, down, fits}
 use lib.Ieee.Fits.{up-pos, and-l, ofInt-fits}
 use Rattle.number.specs.Notation.{whole, bits}
-use Rattle.number.specs.Order.{naught, passed, eq-sym, eq-trans}
+use Rattle.number.specs.Order.{naught, passed}
 use Rattle.number.specs.Pattern.{eq-same}
 use Rattle.maths.specs.Exp.{expOf}
 use Rattle.maths.specs.Ln.{lnOf}

@@ -1,99 +1,26 @@
--- Halving an interval [lo, hi] whose ends are at most 2 ^ (emax - 1) in size, which is 2 ^ 1022 in an f64: the midpoint lies between the ends,
--- so both halves are such intervals again, and the width is finite and not below zero. Assumes nothing.
-use mathlib.Core.Path.{_≡_, refl, ap, subst}
-use mathlib.Core.Logic.{inl}
-use Prim.Native.Nat.{ℕ, zero-le, suc, _+_, _-_, _*_, _^_, _≤_, _<_}
+-- Halving a sound range: the midpoint lies between the ends; the width is finite and not below zero. Assumes nothing.
+use mathlib.Core.Path.{_≡_, refl, ap}
+use Prim.Native.Nat.{ℕ, suc, _+_, _-_, _*_, _^_, _≤_, _<_, zero-le}
 use native.Mathlib.Nat.{mul-pos, mul-one, mul-assoc, one-mul, add-mul}
 use native.Mathlib.Omega.{arith}
-use mathlib.Core.Bool.{Bool, true, false, not, _&&_, true≢false, false≢true}
+use mathlib.Core.Bool.{Bool, true, false, true≢false, false≢true, not}
 use lib.Dec.{T}
 use lib.Pow.{pow-pos}
-use lib.IntN.{ℤ, pos}
-use lib.Ieee.{Float, nan, inf, fin, Format, binary32, binary64, emax, up, down, round, add, sub, div, neg, le, fits}
-use lib.Ieee.Fits.{down-pos, and-l, and-r, and-i}
+use lib.IntN.{ℤ}
+use lib.Ieee.{Float, nan, inf, fin, Format, binary32, binary64, emax, up, down, round, add, div, le, fits, sub, neg}
+use lib.Ieee.Fits.{down-pos}
 use lib.Ieee.Exact.{HasValue}
 use lib.Ieee.Scale.{finite, round-same}
 use lib.Ieee.Positive.{den, den-pos}
-use Rattle.number.specs.Sign.{absOf}
-use Rattle.number.specs.Signed.{Leq, products, plus, minus, _⊑_, le→⊑, ⊑→le}
-use Rattle.number.specs.Order.{naught, le-nan-left, le-left, le-right, le-refl, le-trans, neg-le}
-use Rattle.number.specs.Round.{rounded-mono, add-rounded, half-rounded, add-mono, round-scaled, le-of-values, value-finite, round-zero, two}
-
--- ---- the words
--- 2 ^ (emax - 1), and its negative
-abbrev pub high-end : Format → Float
-high-end f = fin false 1 (pos (emax f - 1))
-
-abbrev pub low-end : Format → Float
-low-end f = fin true 1 (pos (emax f - 1))
-
--- finite, and at most that in size
-abbrev pub within : Format → Float → Bool
-within f x = le (low-end f) x && le x (high-end f)
-
--- an interval that can be halved
-abbrev pub sound : Format → Float → Float → Bool
-sound f lo hi = within f lo && within f hi && le lo hi
+use mathlib.Core.Logic.{inl}
+use Rattle.number.specs.Signed.{Leq, products, plus, minus, _⊑_, le→⊑}
+use Rattle.number.specs.Order.{le-left, le-right, le-refl, le-trans, neg-le, naught}
+use Rattle.number.specs.Round.{rounded-mono, half-rounded, add-mono, round-scaled, le-of-values, value-finite, two, add-rounded, round-zero}
+use Rattle.number.specs.Sound.{high-end, low-end, within, within-low, within-high, within-finite, finite-between, within-i}
 
 -- (lo + hi) / 2, each operation rounded once
 abbrev pub mid : Format → Float → Float → Float
 mid f lo hi = div f (add f lo hi) two
-
--- the parts of these tests
-pub within-low : (f : Format) (x : Float) → T (within f x) → T (le (low-end f) x)
-within-low f x h = and-l (le (low-end f) x) (le x (high-end f)) h
-
-pub within-high : (f : Format) (x : Float) → T (within f x) → T (le x (high-end f))
-within-high f x h = and-r (le (low-end f) x) (le x (high-end f)) h
-
-pub within-i : (f : Format) (x : Float) → T (le (low-end f) x) → T (le x (high-end f)) → T (within f x)
-within-i f x p q = and-i (le (low-end f) x) (le x (high-end f)) p q
-
-pub sound-lo : (f : Format) (lo hi : Float) → T (sound f lo hi) → T (within f lo)
-sound-lo f lo hi h = and-l (within f lo) (within f hi) (and-l (within f lo && within f hi) (le lo hi) h)
-
-pub sound-hi : (f : Format) (lo hi : Float) → T (sound f lo hi) → T (within f hi)
-sound-hi f lo hi h = and-r (within f lo) (within f hi) (and-l (within f lo && within f hi) (le lo hi) h)
-
-pub sound-le : (f : Format) (lo hi : Float) → T (sound f lo hi) → T (le lo hi)
-sound-le f lo hi h = and-r (within f lo && within f hi) (le lo hi) h
-
-pub sound-i : (f : Format) (lo hi : Float) → T (within f lo) → T (within f hi) → T (le lo hi) → T (sound f lo hi)
-sound-i f lo hi p q h = and-i (within f lo && within f hi) (le lo hi) (and-i (within f lo) (within f hi) p q) h
-
--- ---- what lies between two such values is such a value
-pub finite-between : (a x b : Float) → T (finite a) → T (finite b) → T (le a x) → T (le x b) → T (finite x)
-unfolding le
-finite-between nan x b p q h k = absurd p
-finite-between (inf s) x b p q h k = absurd p
-finite-between (fin s m e) nan b p q h k = h
-finite-between (fin s m e) (inf true) b p q h k = h
-finite-between (fin s m e) (inf false) nan p q h k = k
-finite-between (fin s m e) (inf false) (inf t) p q h k = q
-finite-between (fin s m e) (inf false) (fin t n d) p q h k = k
-finite-between (fin s m e) (fin u l g) b p q h k = tt
-
-pub within-finite : (f : Format) (x : Float) → T (within f x) → T (finite x)
-within-finite f x h = finite-between (low-end f) x (high-end f) tt tt (within-low f x h) (within-high f x h)
-
-pub within-between : (f : Format) (lo x hi : Float) → T (within f lo) → T (within f hi) → T (le lo x) → T (le x hi) → T (within f x)
-within-between f lo x hi p q h k =
-    within-i f x (le-trans (low-end f) lo x (within-low f lo p) h) (le-trans x hi (high-end f) k (within-high f hi q))
-
--- ---- the same test by the magnitude
-pub abs-within : (f : Format) (x : Float) → T (le (absOf x) (high-end f)) → T (within f x)
-unfolding absOf neg
-abs-within f nan h = absurd (subst T (le-nan-left (high-end f)) h)
-abs-within f (inf s) h = unfold le in absurd h
-abs-within f (fin false m e) h = within-i f (fin false m e) (⊑→le (low-end f) (fin false m e) tt tt (omega arith)) h
-abs-within f (fin true m e) h = within-i f (fin true m e) (neg-le (fin false m e) (high-end f) h) (⊑→le (fin true m e) (high-end f) tt tt (omega arith))
-
-pub within-abs : (f : Format) (x : Float) → T (within f x) → T (le (absOf x) (high-end f))
-unfolding absOf neg
-within-abs f nan h = absurd (within-finite f nan h)
-within-abs f (inf s) h = absurd (within-finite f (inf s) h)
-within-abs f (fin false m e) h = within-high f (fin false m e) h
-within-abs f (fin true m e) h = neg-le (low-end f) (fin true m e) (within-low f (fin true m e) h)
 
 -- ---- twice a value is exact, and so is half of that
 size-bound : (f : Format) (s : Bool) (m : ℕ) (e : ℤ) → T (within f (fin s m e)) → m * up e ≤ 2 ^ (emax f - 1) * down e
@@ -204,36 +131,6 @@ lo≤mid f lo hi t p q h = le-trans lo (mid f lo lo) (mid f lo hi) (mid-self f l
 
 pub mid≤hi : (f : Format) (lo hi : Float) → T (fits f hi) → T (within f lo) → T (within f hi) → T (le lo hi) → T (le (mid f lo hi) hi)
 mid≤hi f lo hi t p q h = le-trans (mid f lo hi) (mid f hi hi) hi (mid-mono f lo hi hi hi p q q q h (le-refl hi (le-right lo hi h))) (mid-self f hi t q .1)
-
--- ---- the halves
--- what lies in a sound interval, and a part of it
-pub inside-within : (f : Format) (lo x hi : Float) → T (sound f lo hi) → T (le lo x) → T (le x hi) → T (within f x)
-inside-within f lo x hi h = within-between f lo x hi (sound-lo f lo hi h) (sound-hi f lo hi h)
-
-pub part-sound : (f : Format) (lo a b hi : Float) → T (sound f lo hi) → T (le lo a) → T (le a b) → T (le b hi) → T (sound f a b)
-part-sound f lo a b hi h p q r =
-    sound-i f a b (inside-within f lo a hi h p (le-trans a b hi q r)) (inside-within f lo b hi h (le-trans lo a b p q) r) q
-
-pub mid-within : (f : Format) (lo hi : Float) → T (fits f lo) → T (fits f hi) → T (sound f lo hi) → T (within f (mid f lo hi))
-mid-within f lo hi s t h =
-    let p = sound-lo f lo hi h in
-    let q = sound-hi f lo hi h in
-    let l = sound-le f lo hi h in
-    within-between f lo (mid f lo hi) hi p q (lo≤mid f lo hi s p q l) (mid≤hi f lo hi t p q l)
-
-pub lower-sound : (f : Format) (lo hi : Float) → T (fits f lo) → T (fits f hi) → T (sound f lo hi) → T (sound f lo (mid f lo hi))
-lower-sound f lo hi s t h =
-    let p = sound-lo f lo hi h in
-    let q = sound-hi f lo hi h in
-    let l = sound-le f lo hi h in
-    part-sound f lo lo (mid f lo hi) hi h (le-refl lo (le-left lo hi l)) (lo≤mid f lo hi s p q l) (mid≤hi f lo hi t p q l)
-
-pub upper-sound : (f : Format) (lo hi : Float) → T (fits f lo) → T (fits f hi) → T (sound f lo hi) → T (sound f (mid f lo hi) hi)
-upper-sound f lo hi s t h =
-    let p = sound-lo f lo hi h in
-    let q = sound-hi f lo hi h in
-    let l = sound-le f lo hi h in
-    part-sound f lo (mid f lo hi) hi hi h (lo≤mid f lo hi s p q l) (mid≤hi f lo hi t p q l) (le-refl hi (le-right lo hi l))
 
 -- ---- the width
 pub within-neg : (f : Format) (x : Float) → T (within f x) → T (within f (neg x))

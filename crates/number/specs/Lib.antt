@@ -8,6 +8,7 @@ pub mod Order
 pub mod MaxMin
 pub mod Round
 pub mod Below
+pub mod Sound
 pub mod Halving
 pub mod Pattern
 pub mod Next

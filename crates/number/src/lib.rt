@@ -8,17 +8,14 @@ ghost use Rattle.number.specs.Sign.{absOf, signBit};
 ghost use Rattle.number.specs.MaxMin.{maxOf, minOf};
 ghost use Rattle.number.specs.Next.{nextUp, nextDown};
 ghost use Rattle.number.specs.Near as Near;
-ghost use Rattle.number.specs.Halving.{sound};
+ghost use Rattle.number.specs.Sound.{sound};
 
-// A NaN yields the other operand; equal operands yield the first.
+// A NaN yields the other operand, which for b needs no test: no comparison with a NaN holds. Equal operands yield the first.
 pub fn max(a: f64, b: f64) -> f64
     ensures { λ r. ⌜ r ≡ maxOf a b ⌝ }
 {
     if a != a {
         return b;
-    }
-    if b != b {
-        return a;
     }
     if a < b { b } else { a }
 }
@@ -28,9 +25,6 @@ pub fn min(a: f64, b: f64) -> f64
 {
     if a != a {
         return b;
-    }
-    if b != b {
-        return a;
     }
     if b < a { b } else { a }
 }

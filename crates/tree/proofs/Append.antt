@@ -8,13 +8,15 @@ use borrow.Author.Tests.{lt-ltb, le-ltb, ltb-true}
 use lib.Dec.{ltb}
 use lib.ListN.{length, getD}
 use lib.Seq.{sets}
-use Rattle.tree.specs.Refusal.{_or-else_, _unless_, passing, filled}
-use Rattle.tree.specs.RefusalLaws.{both, none-both, none-unless, or-else-refused, passing-all, filled-at}
+use Rattle.record.specs.Refusal.{_or-else_, _unless_, passing, filled}
+use Rattle.record.specs.RefusalLaws.{both, none-both, none-unless, or-else-refused, passing-all, filled-at}
 use Rattle.tree.specs.Tree.{Tree, size, depth, isSmall}
 use Rattle.tree.specs.Nodes.{treeAt, nodeRefusal, nodesRefusal, nodesFit, listRefusal, Valid}
 use Rattle.tree.specs.NodeLaws.{list-valid, size-small, depth-small}
 use Rattle.tree.specs.Code.{sizeAt, depthAt, Measured, operandsRefusal, resultRefusal}
-use Rattle.tree.specs.Canonical.{lnTree, subTree, appendRefusal, lnRefusal, subRefusal, nodesBytes, _leaving_, append}
+use Rattle.record.specs.Leaving.{_leaving_}
+use Rattle.tree.specs.Encoding.{nodesBytes}
+use Rattle.tree.specs.Canonical.{lnTree, subTree, appendRefusal, lnRefusal, subRefusal, append}
 use Rattle.tree.specs.declared.Node.{Node}
 use Rattle.tree.specs.declared.Appended.{Appended}
 

@@ -8,8 +8,8 @@ use native.Mathlib.Nat.{le-antisymm, le-of-suc-le-suc, eq-or-lt-of-le}
 use native.Mathlib.Omega.{arith}
 use borrow.Author.Tests.{le-leb, lt-leb}
 use lib.ListN.{length, getD, set}
-use Rattle.tree.specs.Refusal.{first, passing, filled}
-use Rattle.tree.specs.RefusalLaws.{none-more, none-of-each, passing-all, first-here, passing-here, length-filled, filled-at, filled-more}
+use Rattle.record.specs.Refusal.{first, passing, filled}
+use Rattle.record.specs.RefusalLaws.{none-more, none-of-each, passing-all, first-here, passing-here, length-filled, filled-at, filled-more}
 use Rattle.tree.specs.Tree.{size, depth, isSmall}
 use Rattle.tree.specs.Nodes.{nodeAt, isNode, treeAt, nodeRefusal, nodesRefusal, nodesFit, listRefusal, Valid}
 use Rattle.tree.specs.NodeLaws.{Right, right, tree-one, tree-const, tree-var, tree-eml, size-small, depth-small}

@@ -7,7 +7,7 @@ use native.Mathlib.Omega.{arith}
 use lib.Dec.{ltb, eqb}
 use borrow.Author.Tests.{le-ltb, ne-eqb}
 use lib.Ieee.Scale.{finite}
-use Rattle.tree.specs.Bytes.{u32At, f64At}
+use Rattle.record.specs.Bytes.{u32At, f64At}
 use Rattle.tree.specs.Nodes.{isNode}
 use Rattle.number.specs.Notation.{if_then_else_}
 use Rattle.tree.specs.Code.{leftEnd, rightEnd, chosen}

@@ -3,13 +3,13 @@ use Prim.Native.Nat.{ℕ, zero, suc, _+_, _*_}
 use mathlib.Core.Bool.{Bool, _&&_}
 use mathlib.Core.List.{List, [], _∷_, _++_}
 use lib.Dec.{ltb}
-use lib.Ieee.{binary64, toBits}
 use lib.ListN.{length}
 use lib.Seq.{sets}
-use Rattle.tree.specs.Bytes.{u32Bytes, u64Bytes}
-use Rattle.tree.specs.Refusal.{_or-else_, _unless_}
+use Rattle.record.specs.Refusal.{_or-else_, _unless_}
+use Rattle.record.specs.Leaving.{Leaving, _leaving_}
 use Rattle.tree.specs.Tree.{Tree, isSmall}
 use Rattle.tree.specs.Nodes.{nodesFit, treeAt, listRefusal}
+use Rattle.tree.specs.Encoding.{nodesBytes}
 use Rattle.tree.specs.declared.Node.{Node}
 use Rattle.tree.specs.declared.Appended.{Appended}
 
@@ -28,19 +28,7 @@ lnNodes n x = Node.One ∷ Node.Eml n x ∷ Node.Eml (n + 1) n ∷ Node.Eml n (n
 abbrev pub subNodes : ℕ → ℕ → ℕ → List Node
 subNodes n x y = Node.One ∷ lnNodes (n + 1) x ++ Node.Eml y n ∷ Node.Eml (n + 4) (n + 5) ∷ []
 
--- a node's record
-unfoldable pub nodeBytes : Node → List ℕ
-nodeBytes Node.One = u32Bytes 0 ++ u32Bytes 0 ++ u32Bytes 0 ++ u32Bytes 0
-nodeBytes (Node.Const v) = u32Bytes 1 ++ u32Bytes 0 ++ u64Bytes (toBits binary64 v)
-nodeBytes (Node.Var i) = u32Bytes 2 ++ u32Bytes i ++ u32Bytes 0 ++ u32Bytes 0
-nodeBytes (Node.Eml l r) = u32Bytes 3 ++ u32Bytes l ++ u32Bytes r ++ u32Bytes 0
-
-unfoldable pub nodesBytes : List Node → List ℕ
-nodesBytes [] = []
-nodesBytes (n ∷ ns) = nodeBytes n ++ nodesBytes ns
-
 -- ---- the refusals, in document 01's order: the list's own tests; 3; 4; 10
-
 unfoldable pub appendRefusal : (b : List ℕ) (n : ℕ) (named : Bool) (result : Tree) (m : ℕ) → ℕ
 appendRefusal b n named result m =
     listRefusal b n
@@ -55,17 +43,13 @@ unfoldable pub subRefusal : List ℕ → ℕ → ℕ → ℕ → ℕ
 subRefusal b n x y = appendRefusal b n (ltb x n && ltb y n) (subTree (treeAt b x) (treeAt b y)) 7
 
 -- ---- the answer, and the list at exit
-infix 20 _leaving_
-pub data Outcome : Type 0 where
-  _leaving_ : Appended → List ℕ → Outcome
-
 -- a refusal returns its number and alters nothing; else the number of the last node appended
-abbrev pub append : ℕ → List ℕ → ℕ → List Node → ℕ → Outcome
+abbrev pub append : ℕ → List ℕ → ℕ → List Node → ℕ → Leaving Appended (List ℕ)
 append (suc r) b n ns last = Appended.Refused (suc r) leaving b
 append zero b n ns last = Appended.At last leaving sets b (16 * n) (nodesBytes ns)
 
-unfoldable pub ln : List ℕ → ℕ → ℕ → Outcome
+unfoldable pub ln : List ℕ → ℕ → ℕ → Leaving Appended (List ℕ)
 ln b n x = append (lnRefusal b n x) b n (lnNodes n x) (n + 3)
 
-unfoldable pub sub : List ℕ → ℕ → ℕ → ℕ → Outcome
+unfoldable pub sub : List ℕ → ℕ → ℕ → ℕ → Leaving Appended (List ℕ)
 sub b n x y = append (subRefusal b n x y) b n (subNodes n x y) (n + 6)

@@ -5,21 +5,22 @@ use mathlib.Core.Bool.{Bool, true, _&&_}
 use mathlib.Core.List.{List}
 use native.Mathlib.Omega.{arith}
 use borrow.Author.Count.{below-more}
-use borrow.Author.Tests.{ltb-true, lt-ltb, le-leb}
+use borrow.Author.Tests.{ltb-true, le-leb}
 use lib.Dec.{ltb}
 use lib.ListN.{length, getD}
 use lib.Seq.{sets, length-sets}
-use Rattle.tree.specs.Refusal.{_unless_}
-use Rattle.tree.specs.RefusalLaws.{both, none-both, none-unless}
+use Rattle.record.specs.Refusal.{_unless_}
+use Rattle.record.specs.RefusalLaws.{both, none-both, none-unless}
 use Rattle.tree.specs.Tree.{Tree, size, depth, isSmall}
-use Rattle.tree.specs.Nodes.{nodeAt, isNode, treeAt, nodeRefusal, nodesFit, listRefusal, Valid}
-use Rattle.tree.specs.Bytes.{u32At, u32Bytes}
-use Rattle.number.specs.Notation.{if_then_else_}
-use Rattle.tree.specs.Frame.{word-same, tree-same, valid-same}
-use Rattle.tree.specs.Writing.{u32-read, written, sets-before}
+use Rattle.tree.specs.Nodes.{isNode, treeAt, nodeRefusal, nodesFit, listRefusal, Valid}
+use Rattle.record.specs.ByteLaws.{sets-before}
+use Rattle.record.specs.Leaving.{_leaving_, same-answer, same-places}
+use Rattle.tree.specs.Frame.{tree-same, valid-same}
+use Rattle.tree.specs.Encoding.{nodesBytes}
+use Rattle.tree.specs.EncodingLaws.{written, Has, one-read, eml-read}
 use Rattle.tree.specs.declared.Node.{Node}
 use Rattle.tree.specs.NodeLaws.{fit-parts, list-valid, small-parts, tree-one, tree-eml}
-use Rattle.tree.specs.Canonical.{lnTree, subTree, lnNodes, subNodes, nodeBytes, nodesBytes, appendRefusal, lnRefusal, subRefusal, _leaving_, append, ln, sub}
+use Rattle.tree.specs.Canonical.{lnTree, subTree, lnNodes, subNodes, appendRefusal, lnRefusal, subRefusal, append, ln, sub}
 use Rattle.tree.specs.declared.Appended.{Appended}
 
 -- ---- what no refusal gives
@@ -48,48 +49,6 @@ sub-accepted b n x y e =
     let w = accepted b n (ltb x n && ltb y n) (subTree (treeAt b x) (treeAt b y)) 7 e in
     let v = both (ltb x n) (ltb y n) (w .0) in
     (ltb-true x n (v .0), ltb-true y n (v .1), w .1)
-
--- ---- a record that was written is read as its node, and passes
--- record k of c is x's
-abbrev Has : List ℕ → ℕ → Node → Type 0
-Has c k x = (o : ℕ) → o < 16 → getD c (16 * k + o) 0 ≡ getD (nodeBytes x) (16 * 0 + o) 0
-
-has-word : (c : List ℕ) (k : ℕ) (x : Node) → Has c k x → (o i : ℕ) → o + 4 ≤ 16 → i ≡ 16 * k + o → u32At c i ≡ u32At (nodeBytes x) o
-has-word c k x same o i h e = word-same c (nodeBytes x) k 0 same o i o h e (omega arith)
-
-module _ (c : List ℕ) (k : ℕ) (same : Has c k Node.One) where
-  one-read : (nodeAt c k ≡ Node.One) × (isNode c k ≡ true)
-  unfolding nodeAt isNode if_then_else_
-  one-read = rw (kind, left, right, last) (refl, refl)
-    where
-      kind : u32At c (16 * k) ≡ 0
-      kind = unfold nodeBytes u32Bytes u32At in has-word c k Node.One same 0 (16 * k) (omega arith) (omega arith)
-
-      left : u32At c (16 * k + 4) ≡ 0
-      left = unfold nodeBytes u32Bytes u32At in has-word c k Node.One same 4 (16 * k + 4) (omega arith) refl
-
-      right : u32At c (16 * k + 8) ≡ 0
-      right = unfold nodeBytes u32Bytes u32At in has-word c k Node.One same 8 (16 * k + 8) (omega arith) refl
-
-      last : u32At c (16 * k + 12) ≡ 0
-      last = unfold nodeBytes u32Bytes u32At in has-word c k Node.One same 12 (16 * k + 12) (omega arith) refl
-
-module _ (c : List ℕ) (k l r : ℕ) (same : Has c k (Node.Eml l r)) (p : l < k) (q : r < k) (few : k < 1024) where
-  eml-read : (nodeAt c k ≡ Node.Eml l r) × (isNode c k ≡ true)
-  unfolding nodeAt isNode if_then_else_
-  eml-read = rw (kind, left, right, last, lt-ltb l k p, lt-ltb r k q) (refl, refl)
-    where
-      kind : u32At c (16 * k) ≡ 3
-      kind = unfold nodeBytes u32Bytes u32At in has-word c k (Node.Eml l r) same 0 (16 * k) (omega arith) (omega arith)
-
-      left : u32At c (16 * k + 4) ≡ l
-      left = unfold nodeBytes u32Bytes u32At in has-word c k (Node.Eml l r) same 4 (16 * k + 4) (omega arith) refl ∙ u32-read l (omega arith)
-
-      right : u32At c (16 * k + 8) ≡ r
-      right = unfold nodeBytes u32Bytes u32At in has-word c k (Node.Eml l r) same 8 (16 * k + 8) (omega arith) refl ∙ u32-read r (omega arith)
-
-      last : u32At c (16 * k + 12) ≡ 0
-      last = unfold nodeBytes u32Bytes u32At in has-word c k (Node.Eml l r) same 12 (16 * k + 12) (omega arith) refl
 
 -- ---- one more node
 small-i : (t : Tree) → size t ≤ 4096 → depth t ≤ 128 → isSmall t ≡ true
@@ -193,8 +152,8 @@ module _ (b : List ℕ) (n x y : ℕ) (e : subRefusal b n x y ≡ 0) where
 -- ---- the two calls, by their outcome
 appended : (r : ℕ) (b : List ℕ) (n : ℕ) (xs : List Node) (last k : ℕ) (c : List ℕ) → append r b n xs last ≡ (Appended.At k leaving c) →
     (r ≡ 0) × (last ≡ k) × (sets b (16 * n) (nodesBytes xs) ≡ c)
-appended zero b n xs last k c e = (refl, cc, cc)
-appended (suc r) b n xs last k c e = let z : _≡_ {A = ℕ} 0 1 = cc in absurd (omega arith)
+appended zero b n xs last k c e = (refl, cc (same-answer e), same-places e)
+appended (suc r) b n xs last k c e = let z : _≡_ {A = ℕ} 0 1 = cc (same-answer e) in absurd (omega arith)
 
 pub ln-appends : (b : List ℕ) (n x k : ℕ) (c : List ℕ) → ln b n x ≡ (Appended.At k leaving c) → Means b c n k (lnTree (treeAt b x))
 unfolding ln

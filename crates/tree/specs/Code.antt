@@ -6,7 +6,7 @@ use mathlib.Core.List.{List}
 use lib.Dec.{leb, ltb, eqb}
 use Rattle.number.specs.Notation.{if_then_else_}
 use lib.ListN.{length, getD}
-use Rattle.tree.specs.Refusal.{_or-else_, _unless_}
+use Rattle.record.specs.Refusal.{_or-else_, _unless_}
 use Rattle.tree.specs.Tree.{Tree, size, depth}
 use Rattle.tree.specs.Nodes.{nodesFit, treeAt, listRefusal}
 use Rattle.tree.specs.declared.Sized.{Sized}

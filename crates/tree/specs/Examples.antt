@@ -6,8 +6,8 @@ use lib.ListN.{length, set, replicate}
 use Rattle.number.specs.Notation.{bits}
 use Rattle.tree.specs.Tree.{One, Const, Var, Eml}
 use Rattle.tree.specs.Nodes.{treeAt, listRefusal}
-use Rattle.tree.specs.Canonical.{nodeBytes, nodesBytes, lnRefusal}
-use Rattle.tree.specs.Fingerprint.{fingerprint}
+use Rattle.tree.specs.Encoding.{nodeBytes, nodesBytes}
+use Rattle.tree.specs.Canonical.{lnRefusal}
 use Rattle.tree.specs.Computing.{computing}
 use Rattle.tree.specs.declared.Node.{Node}
 
@@ -89,8 +89,3 @@ ln-short = refl
 ln-fits : lnRefusal (nodesBytes some) 1 0 ≡ 0
 unfolding computing
 ln-fits = refl
-
--- Eml(One, Var 15)
-print : fingerprint (Eml One (Var 15)) ≡ 693069861
-unfolding computing
-print = refl

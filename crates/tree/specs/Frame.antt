@@ -2,23 +2,14 @@
 use Prim.Native.Nat.{ℕ, zero, suc, _+_, _*_, _^_, _≤_, _<_}
 use mathlib.Core.Path.{_≡_, refl, sym, ap, ap₂, _∙_}
 use mathlib.Core.List.{List, [], _∷_, _++_}
-use native.Mathlib.Nat.{add-zero}
 use native.Mathlib.Omega.{arith}
 use lib.Ieee.{binary64, ofBits}
 use lib.ListN.{length, getD}
-use Rattle.tree.specs.Bytes.{u32At, u64At, f64At}
+use Rattle.record.specs.Bytes.{u32At, u64At, f64At}
+use Rattle.record.specs.ByteLaws.{u32-same}
 use Rattle.tree.specs.Tree.{Tree}
 use Rattle.tree.specs.Nodes.{nodeAt, isNode, treeOf, trees, treeAt, nodeRefusal, Valid}
 use Rattle.tree.specs.declared.Node.{Node}
-
-pub u32-same : (b c : List ℕ) (i j : ℕ) → ((o : ℕ) → o < 4 → getD b (i + o) 0 ≡ getD c (j + o) 0) → u32At b i ≡ u32At c j
-unfolding u32At
-u32-same b c i j same =
-    let w = ap (λ (m : ℕ). getD b m 0) (sym (add-zero i)) ∙ same 0 (omega arith) ∙ ap (λ (m : ℕ). getD c m 0) (add-zero j) in
-    let x = same 1 (omega arith) in
-    let y = same 2 (omega arith) in
-    let z = same 3 (omega arith) in
-    omega arith
 
 -- record k of b is record l of c
 module _ (b c : List ℕ) (k l : ℕ) (same : (o : ℕ) → o < 16 → getD b (16 * k + o) 0 ≡ getD c (16 * l + o) 0) where

@@ -14,9 +14,9 @@ use lib.Ieee.Scale.{finite}
 use lib.ListN.{length, getD, length-append, List·getD-append}
 use lib.Seq.{getD-at}
 use Rattle.number.specs.Notation.{if_then_else_}
-use Rattle.tree.specs.Bytes.{u32At}
-use Rattle.tree.specs.Refusal.{_unless_}
-use Rattle.tree.specs.RefusalLaws.{both, none-both, none-unless, none-of-each}
+use Rattle.record.specs.Bytes.{u32At}
+use Rattle.record.specs.Refusal.{_unless_}
+use Rattle.record.specs.RefusalLaws.{both, none-both, none-unless, none-of-each}
 use Rattle.tree.specs.Tree.{Tree, size, depth, isSmall, treeVars}
 use Rattle.tree.specs.Nodes.{nodeAt, isNode, treeOf, trees, treeAt, nodeRefusal, nodesRefusal, nodesFit, listRefusal, Valid}
 use Rattle.tree.specs.declared.Node.{Node}

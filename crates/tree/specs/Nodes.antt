@@ -7,8 +7,8 @@ use lib.Dec.{leb, ltb, eqb}
 use lib.Ieee.Scale.{finite}
 use lib.ListN.{length, getD}
 use Rattle.number.specs.Notation.{if_then_else_}
-use Rattle.tree.specs.Bytes.{u32At, f64At}
-use Rattle.tree.specs.Refusal.{_or-else_, _unless_, first}
+use Rattle.record.specs.Bytes.{u32At, f64At}
+use Rattle.record.specs.Refusal.{_or-else_, _unless_, first}
 use Rattle.tree.specs.Tree.{Tree, isSmall}
 use Rattle.tree.specs.declared.Node.{Node}
 

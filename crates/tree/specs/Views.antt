@@ -6,5 +6,5 @@ use denote.Triple.Both.{Both}
 use Rattle.tree.specs.Tree.{Tree}
 use Rattle.tree.specs.Nodes.{treeAt}
 
-abbrev pub treeOf : {X : Type 0} → Both (RefT (List ℕ)) X → ℕ → Tree
-treeOf nodes k = treeAt (now (nodes .entry)) k
+abbrev pub theTree : {X : Type 0} → Both (RefT (List ℕ)) X → ℕ → Tree
+theTree nodes k = treeAt (now (nodes .entry)) k

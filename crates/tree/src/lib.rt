@@ -6,14 +6,16 @@ ghost use lib.ListN.{length, getD};
 ghost use lib.Seq.{sets};
 ghost use lib.Ieee.{binary64, ofBits};
 ghost use lib.Ieee.Scale.{finite};
-ghost use Rattle.tree.specs.Bytes.{u32At, u64At, f64At, u32Bytes};
-ghost use Rattle.tree.specs.Refusal.{passing, filled};
+ghost use Rattle.record.specs.Bytes.{u32Bytes};
+ghost use Rattle.record.specs.Refusal.{passing, filled};
+ghost use Rattle.record.specs.Leaving.{_leaving_};
 ghost use Rattle.tree.specs.Tree.{treeVars};
 ghost use Rattle.tree.specs.Nodes.{nodeAt, isNode, nodeRefusal, nodesRefusal, nodesFit, listRefusal, Valid};
 ghost use Rattle.tree.specs.Code.{rightEnd, leftEnd, chosen, sizeAt, depthAt, sizeBy, depthBy, Known, KnownBoth, Within, Measured, operandsRefusal, resultRefusal};
-ghost use Rattle.tree.specs.Canonical.{_leaving_, nodeBytes, nodesBytes, lnNodes, subNodes, lnRefusal, subRefusal, ln as lnOutcome, sub as subOutcome};
-ghost use Rattle.tree.specs.Fingerprint.{mix as mixed, mixFloat as mixedFloat, fingerprint as printOf};
-ghost use Rattle.tree.specs.Views.{treeOf};
+ghost use Rattle.tree.specs.Canonical.{lnNodes, subNodes, lnRefusal, subRefusal, ln as lnOutcome, sub as subOutcome};
+ghost use Rattle.tree.specs.Encoding.{nodeBytes, nodesBytes};
+ghost use Rattle.tree.specs.Views.{theTree};
+ghost use Rattle.record.specs.Views.{old, final};
 
 // What a node's record says: a constant, a variable's index, the numbers of two children.
 pub enum Node {
@@ -21,47 +23,6 @@ pub enum Node {
     Const(f64),
     Var(usize),
     Eml(usize, usize),
-}
-
-// ---- little-endian numbers
-
-pub fn wide(x: u8) -> u32
-    ensures { λ r. ⌜ (r ≡ x) × (r < 256) ⌝ }
-{
-    x as u32
-}
-
-pub fn read_u32(b: &[u8], at: usize) -> u32
-    requires { ⌜ at + 4 ≤ length (now b) ⌝ }
-    ensures { λ r. ⌜ r ≡ u32At (now (b .entry)) at ⌝ }
-{
-    wide(b[at]) + 256 * (wide(b[at + 1]) + 256 * (wide(b[at + 2]) + 256 * wide(b[at + 3])))
-}
-
-pub fn read_u64(b: &[u8], at: usize) -> u64
-    requires { ⌜ at + 8 ≤ length (now b) ⌝ }
-    ensures { λ r. ⌜ r ≡ u64At (now (b .entry)) at ⌝ }
-{
-    let low = read_u32(b, at) as u64;
-    let high = read_u32(b, at + 4) as u64;
-    low + 4294967296 * high
-}
-
-pub fn read_f64(b: &[u8], at: usize) -> f64
-    requires { ⌜ at + 8 ≤ length (now b) ⌝ }
-    ensures { λ r. ⌜ r ≡ f64At (now (b .entry)) at ⌝ }
-{
-    number::of_bits(read_u64(b, at))
-}
-
-pub fn write_u32(b: &mut [u8], at: usize, n: u32)
-    requires { ⌜ at + 4 ≤ length (now b) ⌝ }
-    ensures { λ _. ⌜ now (b .exit) ≡ sets (now (b .entry)) at (u32Bytes n) ⌝ }
-{
-    b[at] = (n % 256) as u8;
-    b[at + 1] = (n / 256 % 256) as u8;
-    b[at + 2] = (n / 65536 % 256) as u8;
-    b[at + 3] = (n / 16777216 % 256) as u8;
 }
 
 // ---- a node's record
@@ -106,14 +67,14 @@ fn choose(kind: u32, constant: bool, other: bool) -> bool
 // Whether record k is a node's.
 pub fn is_node(nodes: &[u8], k: usize) -> bool
     requires { ⌜ 16 * k + 16 ≤ length (now nodes) ⌝ }
-    ensures { λ r. ⌜ r ≡ isNode (now (nodes .entry)) k ⌝ }
+    ensures { λ r. ⌜ r ≡ isNode (old nodes) k ⌝ }
 {
     let at = 16 * k;
-    let kind = read_u32(nodes, at);
-    let left = read_u32(nodes, at + 4) as usize;
-    let right = read_u32(nodes, at + 8) as usize;
-    let last = read_u32(nodes, at + 12);
-    let real = is_finite(read_u64(nodes, at + 8));
+    let kind = record::read_u32(nodes, at);
+    let left = record::read_u32(nodes, at + 4) as usize;
+    let right = record::read_u32(nodes, at + 8) as usize;
+    let last = record::read_u32(nodes, at + 12);
+    let real = is_finite(record::read_u64(nodes, at + 8));
     let rest = (right < right_end(kind, k)) & (last == 0);
     (kind < 4) & (left < left_end(kind, k)) & choose(kind, real, rest)
 }
@@ -121,17 +82,17 @@ pub fn is_node(nodes: &[u8], k: usize) -> bool
 // Node k, read with no test.
 pub fn node_in(nodes: &[u8], k: usize) -> Node
     requires { ⌜ 16 * k + 16 ≤ length (now nodes) ⌝ }
-    ensures { λ r. ⌜ r ≡ nodeAt (now (nodes .entry)) k ⌝ }
+    ensures { λ r. ⌜ r ≡ nodeAt (old nodes) k ⌝ }
 {
     let at = 16 * k;
-    let kind = read_u32(nodes, at);
+    let kind = record::read_u32(nodes, at);
     match kind {
         0 => Node::One,
-        1 => Node::Const(read_f64(nodes, at + 8)),
-        2 => Node::Var(read_u32(nodes, at + 4) as usize),
+        1 => Node::Const(record::read_f64(nodes, at + 8)),
+        2 => Node::Var(record::read_u32(nodes, at + 4) as usize),
         _ => Node::Eml(
-            read_u32(nodes, at + 4) as usize,
-            read_u32(nodes, at + 8) as usize,
+            record::read_u32(nodes, at + 4) as usize,
+            record::read_u32(nodes, at + 8) as usize,
         ),
     }
 }
@@ -155,7 +116,7 @@ pub fn larger(x: usize, y: usize) -> usize
 
 fn measure_eml(l: usize, r: usize, size: &[u16], depth: &[u8]) -> Sized
     requires { ⌜ KnownBoth l r (now size) (now depth) ⌝ }
-    ensures { λ x. ⌜ (x .size ≡ 1 + getD (now (size .entry)) l 0 + getD (now (size .entry)) r 0) × (x .depth ≡ 1 + max (getD (now (depth .entry)) l 0) (getD (now (depth .entry)) r 0)) ⌝ }
+    ensures { λ x. ⌜ (x .size ≡ 1 + getD (old size) l 0 + getD (old size) r 0) × (x .depth ≡ 1 + max (getD (old depth) l 0) (getD (old depth) r 0)) ⌝ }
 {
     Sized {
         size: 1 + size[l] as usize + size[r] as usize,
@@ -166,7 +127,7 @@ fn measure_eml(l: usize, r: usize, size: &[u16], depth: &[u8]) -> Sized
 // A node's, by those of the nodes before it.
 fn measure(node: Node, size: &[u16], depth: &[u8]) -> Sized
     requires { ⌜ Known node (now size) (now depth) ⌝ }
-    ensures { λ r. ⌜ (r .size ≡ sizeBy node (now (size .entry))) × (r .depth ≡ depthBy node (now (depth .entry))) ⌝ }
+    ensures { λ r. ⌜ (r .size ≡ sizeBy node (old size)) × (r .depth ≡ depthBy node (old depth)) ⌝ }
 {
     match node {
         Node::Eml(l, r) => measure_eml(l, r, size, depth),
@@ -185,10 +146,10 @@ pub struct Tested {
 // Each of count nodes: 3, then 4. The sizes and depths of those that pass are left in the two lists.
 fn test_nodes(nodes: &[u8], count: usize, size: &mut [u16], depth: &mut [u8]) -> Tested
     requires { ⌜ (count ≤ 1024) × (16 * count ≤ length (now nodes)) × (count ≤ length (now size)) × (count ≤ length (now depth)) ⌝ }
-    ensures { λ r. ⌜ r .refusal ≡ nodesRefusal (now (nodes .entry)) count ⌝ }
-    ensures { λ _. ⌜ now (size .exit) ≡ filled (sizeAt (now (nodes .entry))) (passing (nodeRefusal (now (nodes .entry))) count) (now (size .entry)) ⌝ }
-    ensures { λ _. ⌜ now (depth .exit) ≡ filled (depthAt (now (nodes .entry))) (passing (nodeRefusal (now (nodes .entry))) count) (now (depth .entry)) ⌝ }
-    ensures { λ r. ⌜ (r .refusal ≡ 0 → Within (now (nodes .entry)) count (r .largest)) ⌝ }
+    ensures { λ r. ⌜ r .refusal ≡ nodesRefusal (old nodes) count ⌝ }
+    ensures { λ _. ⌜ final size ≡ filled (sizeAt (old nodes)) (passing (nodeRefusal (old nodes)) count) (old size) ⌝ }
+    ensures { λ _. ⌜ final depth ≡ filled (depthAt (old nodes)) (passing (nodeRefusal (old nodes)) count) (old depth) ⌝ }
+    ensures { λ r. ⌜ (r .refusal ≡ 0 → Within (old nodes) count (r .largest)) ⌝ }
 {
     let mut largest: usize = 0;
     let mut k: usize = 0;
@@ -235,8 +196,8 @@ fn nodes_fit(len: usize, n: usize) -> bool
 
 // A list of count nodes: 2, then each node 3, 4. Room for a short list is made sooner.
 pub fn test_sizes(nodes: &[u8], count: usize) -> Tested
-    ensures { λ r. ⌜ r .refusal ≡ listRefusal (now (nodes .entry)) count ⌝ }
-    ensures { λ r. ⌜ (r .refusal ≡ 0 → Within (now (nodes .entry)) count (r .largest)) ⌝ }
+    ensures { λ r. ⌜ r .refusal ≡ listRefusal (old nodes) count ⌝ }
+    ensures { λ r. ⌜ (r .refusal ≡ 0 → Within (old nodes) count (r .largest)) ⌝ }
 {
     if !nodes_fit(nodes.len(), count) {
         return Tested {
@@ -256,7 +217,7 @@ pub fn test_sizes(nodes: &[u8], count: usize) -> Tested
 
 // Its refusal only.
 pub fn test_list(nodes: &[u8], count: usize) -> u8
-    ensures { λ r. ⌜ r ≡ listRefusal (now (nodes .entry)) count ⌝ }
+    ensures { λ r. ⌜ r ≡ listRefusal (old nodes) count ⌝ }
 {
     let t = test_sizes(nodes, count);
     t.refusal
@@ -267,7 +228,7 @@ pub fn test_list(nodes: &[u8], count: usize) -> u8
 // The number of variables of node k's tree.
 pub fn num_vars(nodes: &[u8], k: usize) -> usize
     requires { ⌜ Valid (now nodes) (k + 1) ⌝ }
-    ensures { λ r. ⌜ r ≡ treeVars (treeOf nodes k) ⌝ }
+    ensures { λ r. ⌜ r ≡ treeVars (theTree nodes k) ⌝ }
 {
     match node_in(nodes, k) {
         Node::One => 0,
@@ -278,36 +239,6 @@ pub fn num_vars(nodes: &[u8], k: usize) -> usize
             let right = num_vars(nodes, r);
             larger(left, right)
         }
-    }
-}
-
-pub fn mix(h: u32, x: u32) -> u32
-    ensures { λ r. ⌜ r ≡ mixed h x ⌝ }
-{
-    let wide = (h as u64) * 1000003 + (x as u64) + 1;
-    (wide % 2147483647) as u32
-}
-
-pub fn mix_f64(h: u32, v: f64) -> u32
-    ensures { λ r. ⌜ r ≡ mixedFloat h v ⌝ }
-{
-    let bits = number::bits_of(v);
-    mix(
-        mix(h, (bits % 4294967296) as u32),
-        (bits / 4294967296) as u32,
-    )
-}
-
-// The fingerprint of node k's tree.
-pub fn fingerprint(nodes: &[u8], k: usize) -> u32
-    requires { ⌜ Valid (now nodes) (k + 1) ⌝ }
-    ensures { λ r. ⌜ r ≡ printOf (treeOf nodes k) ⌝ }
-{
-    match node_in(nodes, k) {
-        Node::One => mix(1, 0),
-        Node::Const(v) => mix(mix_f64(2, v), 0),
-        Node::Var(i) => mix(3, i as u32),
-        Node::Eml(l, r) => mix(mix(4, fingerprint(nodes, l)), fingerprint(nodes, r)),
     }
 }
 
@@ -339,8 +270,8 @@ fn refused(refusal: u8) -> Operands
 
 // The list's own tests, then 3 unless x and y name nodes.
 fn measure_operands(nodes: &[u8], count: usize, x: usize, y: usize) -> Operands
-    ensures { λ r. ⌜ r .refusal ≡ operandsRefusal (now (nodes .entry)) count x y ⌝ }
-    ensures { λ r. ⌜ (r .refusal ≡ 0 → Measured (treeOf nodes x) (r .x) × Measured (treeOf nodes y) (r .y)) ⌝ }
+    ensures { λ r. ⌜ r .refusal ≡ operandsRefusal (old nodes) count x y ⌝ }
+    ensures { λ r. ⌜ (r .refusal ≡ 0 → Measured (theTree nodes x) (r .x) × Measured (theTree nodes y) (r .y)) ⌝ }
 {
     if !nodes_fit(nodes.len(), count) {
         return refused(2);
@@ -390,7 +321,7 @@ fn result_refusal(len: usize, count: usize, more: usize, result: Sized) -> u8
 }
 
 fn ln_refusal(nodes: &[u8], count: usize, x: usize) -> u8
-    ensures { λ r. ⌜ r ≡ lnRefusal (now (nodes .entry)) count x ⌝ }
+    ensures { λ r. ⌜ r ≡ lnRefusal (old nodes) count x ⌝ }
 {
     let o = measure_operands(nodes, count, x, x);
     if o.refusal != 0 {
@@ -405,7 +336,7 @@ fn ln_refusal(nodes: &[u8], count: usize, x: usize) -> u8
 }
 
 pub fn sub_refusal(nodes: &[u8], count: usize, x: usize, y: usize) -> u8
-    ensures { λ r. ⌜ r ≡ subRefusal (now (nodes .entry)) count x y ⌝ }
+    ensures { λ r. ⌜ r ≡ subRefusal (old nodes) count x y ⌝ }
 {
     let o = measure_operands(nodes, count, x, y);
     if o.refusal != 0 {
@@ -422,32 +353,32 @@ pub fn sub_refusal(nodes: &[u8], count: usize, x: usize, y: usize) -> u8
 
 fn write_record(nodes: &mut [u8], k: usize, kind: u32, left: u32, right: u32)
     requires { ⌜ 16 * k + 16 ≤ length (now nodes) ⌝ }
-    ensures { λ _. ⌜ now (nodes .exit) ≡ sets (now (nodes .entry)) (16 * k) (u32Bytes kind ++ u32Bytes left ++ u32Bytes right ++ u32Bytes 0) ⌝ }
+    ensures { λ _. ⌜ final nodes ≡ sets (old nodes) (16 * k) (u32Bytes kind ++ u32Bytes left ++ u32Bytes right ++ u32Bytes 0) ⌝ }
 {
     let at = 16 * k;
-    write_u32(nodes, at, kind);
-    write_u32(nodes, at + 4, left);
-    write_u32(nodes, at + 8, right);
-    write_u32(nodes, at + 12, 0);
+    record::write_u32(nodes, at, kind);
+    record::write_u32(nodes, at + 4, left);
+    record::write_u32(nodes, at + 8, right);
+    record::write_u32(nodes, at + 12, 0);
 }
 
 fn write_one(nodes: &mut [u8], k: usize)
     requires { ⌜ 16 * k + 16 ≤ length (now nodes) ⌝ }
-    ensures { λ _. ⌜ now (nodes .exit) ≡ sets (now (nodes .entry)) (16 * k) (nodeBytes Node.One) ⌝ }
+    ensures { λ _. ⌜ final nodes ≡ sets (old nodes) (16 * k) (nodeBytes Node.One) ⌝ }
 {
     write_record(nodes, k, 0, 0, 0);
 }
 
 fn write_eml(nodes: &mut [u8], k: usize, l: usize, r: usize)
     requires { ⌜ (16 * k + 16 ≤ length (now nodes)) × (l < 1024) × (r < 1024) ⌝ }
-    ensures { λ _. ⌜ now (nodes .exit) ≡ sets (now (nodes .entry)) (16 * k) (nodeBytes (Node.Eml l r)) ⌝ }
+    ensures { λ _. ⌜ final nodes ≡ sets (old nodes) (16 * k) (nodeBytes (Node.Eml l r)) ⌝ }
 {
     write_record(nodes, k, 3, l as u32, r as u32);
 }
 
 fn write_ln(nodes: &mut [u8], n: usize, x: usize)
     requires { ⌜ (n + 4 ≤ 1024) × (16 * (n + 4) ≤ length (now nodes)) × (x < n) ⌝ }
-    ensures { λ _. ⌜ now (nodes .exit) ≡ sets (now (nodes .entry)) (16 * n) (nodesBytes (lnNodes n x)) ⌝ }
+    ensures { λ _. ⌜ final nodes ≡ sets (old nodes) (16 * n) (nodesBytes (lnNodes n x)) ⌝ }
 {
     write_one(nodes, n);
     write_eml(nodes, n + 1, n, x);
@@ -457,7 +388,7 @@ fn write_ln(nodes: &mut [u8], n: usize, x: usize)
 
 pub fn write_sub(nodes: &mut [u8], n: usize, x: usize, y: usize)
     requires { ⌜ (n + 7 ≤ 1024) × (16 * (n + 7) ≤ length (now nodes)) × (x < n) × (y < n) ⌝ }
-    ensures { λ _. ⌜ now (nodes .exit) ≡ sets (now (nodes .entry)) (16 * n) (nodesBytes (subNodes n x y)) ⌝ }
+    ensures { λ _. ⌜ final nodes ≡ sets (old nodes) (16 * n) (nodesBytes (subNodes n x y)) ⌝ }
 {
     write_one(nodes, n);
     write_ln(nodes, n + 1, x);
@@ -470,7 +401,7 @@ pub struct Canonical;
 impl Canonical {
     // ln x: appends One, inner, middle, outer.
     pub fn ln(nodes: &mut [u8], count: usize, x: usize) -> Appended
-        ensures { λ r. ⌜ (r leaving now (nodes .exit)) ≡ lnOutcome (now (nodes .entry)) count x ⌝ }
+        ensures { λ r. ⌜ (r leaving final nodes) ≡ lnOutcome (old nodes) count x ⌝ }
     {
         let r = ln_refusal(nodes, count, x);
         if r != 0 {
@@ -482,7 +413,7 @@ impl Canonical {
 
     // x - y: appends One, the four of ln x, exp_y, result.
     pub fn sub(nodes: &mut [u8], count: usize, x: usize, y: usize) -> Appended
-        ensures { λ r. ⌜ (r leaving now (nodes .exit)) ≡ subOutcome (now (nodes .entry)) count x y ⌝ }
+        ensures { λ r. ⌜ (r leaving final nodes) ≡ subOutcome (old nodes) count x y ⌝ }
     {
         let r = sub_refusal(nodes, count, x, y);
         if r != 0 {

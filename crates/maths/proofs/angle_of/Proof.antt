@@ -13,9 +13,6 @@ float-from-bits-a : tie.Need-float-from-bits-a
 unfolding nanBits
 float-from-bits-a c = tt
 
-sign-bit-requires : tie.Need-sign-bit-requires
-sign-bit-requires c κs = search needs
-
 a-is : (c : tie.Joined1) → c .if1 .a ≡ (if c .before .before .args .z .re ≺ whole 0 then bits 0x400921FB54442D18 ⊖ c .before .before .args .t else c .before .before .args .t)
 unfolding if_then_else_
 a-is c = ⊎-elim (λ w. simp (zero-is, w .0 .taken) (w .1)) (λ w. simp (zero-is, w .0 .left) (w .1)) (c .if1 .came)
@@ -33,4 +30,4 @@ returns-2 c =
     simp p (a-is (c .before .before))
 
 pub angle-of-spec : {M : Type 1} → statement M
-angle-of-spec = tie.close (tie.spec float-from-bits-a sign-bit-requires returns returns-2)
+angle-of-spec = tie.close (tie.spec float-from-bits-a (λ c κs. search needs) returns returns-2)

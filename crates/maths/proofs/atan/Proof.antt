@@ -16,12 +16,6 @@ float-from-bits-atan-at : tie.Need-float-from-bits-atan-at
 unfolding nanBits
 float-from-bits-atan-at c = tt
 
-atan-at-requires : tie.Need-atan-at-requires
-atan-at-requires c κs = search needs
-
-atan-at-requires-2 : tie.Need-atan-at-requires-2
-atan-at-requires-2 c κs = search needs
-
 returns : tie.Need-returns
 unfolding atanOf if_then_else_
 returns c = simp (end-is, c .before .if1 .taken) (cc (c .atan-at .ensures, one-is))
@@ -31,4 +25,4 @@ unfolding atanOf if_then_else_
 returns-2 c = simp (end-is, c .before .if1 .left) (cc (c .atan-at2 .ensures, zero-is))
 
 pub atan-spec : {M : Type 1} → statement M
-atan-spec = tie.close (tie.spec float-from-bits-atan-at atan-at-requires atan-at-requires-2 returns returns-2)
+atan-spec = tie.close (tie.spec float-from-bits-atan-at (λ c κs. search needs) (λ c κs. search needs) returns returns-2)

@@ -8,49 +8,13 @@ use Rattle.number.specs.Literals.{zero-is}
 use Rattle.maths.proofs.complex_ln.Statement.{statement}
 use Rattle.maths.proofs.complex_ln.Tie as tie
 
-abs-requires : tie.Need-abs-requires
-abs-requires c κs = search needs
-
-ln-requires : tie.Need-ln-requires
-ln-requires c κs = search needs
-
-sign-bit-requires : tie.Need-sign-bit-requires
-sign-bit-requires c κs = search needs
-
 float-from-bits-pi : tie.Need-float-from-bits-pi
 unfolding nanBits
 float-from-bits-pi c = tt
 
-sign-bit-requires-2 : tie.Need-sign-bit-requires-2
-sign-bit-requires-2 c κs = search needs
-
-abs-requires-2 : tie.Need-abs-requires-2
-abs-requires-2 c κs = search needs
-
-abs-requires-3 : tie.Need-abs-requires-3
-abs-requires-3 c κs = search needs
-
-log-size-requires : tie.Need-log-size-requires
-log-size-requires c κs = search needs
-
-atan-requires : tie.Need-atan-requires
-atan-requires c κs = search needs
-
-angle-of-requires : tie.Need-angle-of-requires
-angle-of-requires c κs = search needs
-
-log-size-requires-2 : tie.Need-log-size-requires-2
-log-size-requires-2 c κs = search needs
-
 float-from-bits-angle-of : tie.Need-float-from-bits-angle-of
 unfolding nanBits
 float-from-bits-angle-of c = tt
-
-atan-requires-2 : tie.Need-atan-requires-2
-atan-requires-2 c κs = search needs
-
-angle-of-requires-2 : tie.Need-angle-of-requires-2
-angle-of-requires-2 c κs = search needs
 
 returns : tie.Need-returns
 unfolding complexLn realLn if_then_else_
@@ -96,4 +60,25 @@ returns-5 c =
     (cc (c .before .before .log-size2 .ensures, c .before .atan2 .ensures, c .angle-of2 .ensures))
 
 pub complex-ln-spec : {M : Type 1} → statement M
-complex-ln-spec = tie.close (tie.spec abs-requires ln-requires sign-bit-requires float-from-bits-pi sign-bit-requires-2 returns returns-2 returns-3 abs-requires-2 abs-requires-3 log-size-requires atan-requires angle-of-requires log-size-requires-2 float-from-bits-angle-of atan-requires-2 angle-of-requires-2 returns-4 returns-5)
+complex-ln-spec =
+    tie.close
+    (tie.spec
+    (λ c κs. search needs)
+    (λ c κs. search needs)
+    (λ c κs. search needs)
+    float-from-bits-pi
+    (λ c κs. search needs)
+    returns
+    returns-2
+    returns-3
+    (λ c κs. search needs)
+    (λ c κs. search needs)
+    (λ c κs. search needs)
+    (λ c κs. search needs)
+    (λ c κs. search needs)
+    (λ c κs. search needs)
+    float-from-bits-angle-of
+    (λ c κs. search needs)
+    (λ c κs. search needs)
+    returns-4
+    returns-5)

@@ -8,20 +8,8 @@ use Rattle.maths.proofs.Quarters.{by-small, further}
 use Rattle.maths.proofs.cos.Statement.{statement}
 use Rattle.maths.proofs.cos.Tie as tie
 
-turn-of-requires : tie.Need-turn-of-requires
-turn-of-requires c κs = search needs
-
-enum-told : tie.Need-enum-told
-enum-told c = search needs
-
-enum-known-q : tie.Need-enum-known-q
-enum-known-q c = search needs
-
 add-sin-by : tie.Need-add-sin-by
 add-sin-by c = record { fits = omega (arith, by-small _ _ _ (sym (c .before .before .before .turn-of .ensures) ∙ c .before .q .given .1)) }
-
-sin-by-requires : tie.Need-sin-by-requires
-sin-by-requires c κs = search needs
 
 returns : tie.Need-returns
 unfolding cosOf
@@ -34,6 +22,4 @@ returns-2 c =
     simp e (c .sin-by .ensures ∙ further _ _ (by-small _ _ _ e))
 
 pub cos-spec : {M : Type 1} → statement M
-cos-spec =
-    tie.close
-    (tie.spec turn-of-requires enum-told enum-known-q add-sin-by sin-by-requires returns returns-2)
+cos-spec = tie.close (tie.spec (λ c κs. search needs) (λ c. search needs) (λ c. search needs) add-sin-by (λ c κs. search needs) returns returns-2)

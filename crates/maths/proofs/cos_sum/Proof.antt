@@ -20,23 +20,8 @@ abbrev μ-loop : tie.MeasureT-loop
 loop-holds : tie.Need-loop-holds Inv-loop μ-loop
 loop-holds c = (omega arith, simp (one-is))
 
-mul-d : tie.Need-mul-d Inv-loop μ-loop
-mul-d c = omega arith
-
-sub-c : tie.Need-sub-c Inv-loop μ-loop
-sub-c c = omega arith
-
 mul-c : tie.Need-mul-c Inv-loop μ-loop
 mul-c c = record { fits = lt-of-le-of-lt (mul-le-mul {n₂ = 17} {m₂ = 18} (omega arith) (omega arith)) (lit< tt) }
-
-int-to-float-c : tie.Need-int-to-float-c Inv-loop μ-loop
-int-to-float-c c = tt
-
-sub-i : tie.Need-sub-i Inv-loop μ-loop
-sub-i c = omega arith
-
-loop-less : tie.Need-loop-less Inv-loop μ-loop
-loop-less c = omega arith
 
 loop-again : tie.Need-loop-again Inv-loop μ-loop
 loop-again c = (omega arith, one-less (cosStep _) _ _ _ (c .before .loop-test .taken) (rw one-is) ∙ c .before .before .loop .inv .1)
@@ -51,11 +36,11 @@ cos-sum-spec =
     Inv-loop
     μ-loop
     loop-holds
-    mul-d
-    sub-c
+    (λ c. omega arith)
+    (λ c. omega arith)
     mul-c
-    int-to-float-c
-    sub-i
-    loop-less
+    (λ c. tt)
+    (λ c. omega arith)
+    (λ c. omega arith)
     loop-again
     returns)

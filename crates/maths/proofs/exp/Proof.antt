@@ -63,9 +63,6 @@ float-from-bits-r-2 : tie.Need-float-from-bits-r-2
 unfolding nanBits
 float-from-bits-r-2 c = tt
 
-exp-sum-requires : tie.Need-exp-sum-requires
-exp-sum-requires c κs = search needs
-
 k-is : (c : tie.After-nearest) → again (c .nearest .result) ≡ c .nearest .result
 k-is c = toZ-ofZ w64 (c .nearest .result) (record { sfits = c .nearest .ok })
 
@@ -102,6 +99,6 @@ exp-spec =
     float-of-requires
     float-from-bits-r
     float-from-bits-r-2
-    exp-sum-requires
+    (λ c κs. search needs)
     scale-requires
     returns-4)

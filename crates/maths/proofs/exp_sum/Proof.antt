@@ -18,15 +18,6 @@ loop-holds : tie.Need-loop-holds Inv-loop μ-loop
 unfolding expSum
 loop-holds c = (omega arith, simp (one-is))
 
-int-to-float-s : tie.Need-int-to-float-s Inv-loop μ-loop
-int-to-float-s c = tt
-
-sub-d : tie.Need-sub-d Inv-loop μ-loop
-sub-d c = omega arith
-
-loop-less : tie.Need-loop-less Inv-loop μ-loop
-loop-less c = omega arith
-
 loop-again : tie.Need-loop-again Inv-loop μ-loop
 loop-again c = (omega arith, one-less (expStep _) _ _ _ (c .before .loop-test .taken) (rw one-is) ∙ c .before .before .loop .inv .1)
 
@@ -34,6 +25,4 @@ returns : tie.Need-returns Inv-loop μ-loop
 returns c = none-left (expStep _) _ _ (c .loop-test .left) ∙ c .before .loop .inv .1
 
 pub exp-sum-spec : {M : Type 1} → statement M
-exp-sum-spec =
-    tie.close
-    (tie.spec Inv-loop μ-loop loop-holds int-to-float-s sub-d loop-less loop-again returns)
+exp-sum-spec = tie.close (tie.spec Inv-loop μ-loop loop-holds (λ c. tt) (λ c. omega arith) (λ c. omega arith) loop-again returns)

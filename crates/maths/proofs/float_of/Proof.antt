@@ -21,8 +21,5 @@ int-to-float-result c =
     let s = c .before in
     rw (toZ-ofZ w64 (s .args .n) (s .fits .n)) (exact (s .args .n) (s .pre))
 
-returns : tie.Need-returns
-returns c = search needs
-
 pub float-of-spec : {M : Type 1} → statement M
-float-of-spec = tie.close (tie.spec int-to-float-result returns)
+float-of-spec = tie.close (tie.spec int-to-float-result (λ c. search needs))

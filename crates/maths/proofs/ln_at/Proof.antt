@@ -8,12 +8,6 @@ use Rattle.number.specs.Literals.{one-is, two-is}
 use Rattle.maths.proofs.ln_at.Statement.{statement}
 use Rattle.maths.proofs.ln_at.Tie as tie
 
-float-of-requires : tie.Need-float-of-requires
-float-of-requires c κs = search needs
-
-ln-sum-requires : tie.Need-ln-sum-requires
-ln-sum-requires c κs = search needs
-
 float-from-bits-result : tie.Need-float-from-bits-result
 unfolding nanBits
 float-from-bits-result c = tt
@@ -29,4 +23,4 @@ returns c =
     cc (e, c .before .float-of .ensures, c .ln-sum .ensures, one-is, two-is)
 
 pub ln-at-spec : {M : Type 1} → statement M
-ln-at-spec = tie.close (tie.spec float-of-requires ln-sum-requires float-from-bits-result float-from-bits-result-2 returns)
+ln-at-spec = tie.close (tie.spec (λ c κs. search needs) (λ c κs. search needs) float-from-bits-result float-from-bits-result-2 returns)

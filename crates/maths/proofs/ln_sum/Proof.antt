@@ -24,21 +24,6 @@ loop-holds : tie.Need-loop-holds Inv-loop μ-loop
 unfolding lnSum
 loop-holds c = (omega arith, simp (one-is, last-is))
 
-mul-s : tie.Need-mul-s Inv-loop μ-loop
-mul-s c = omega arith
-
-sub-s : tie.Need-sub-s Inv-loop μ-loop
-sub-s c = omega arith
-
-int-to-float-s : tie.Need-int-to-float-s Inv-loop μ-loop
-int-to-float-s c = tt
-
-sub-i : tie.Need-sub-i Inv-loop μ-loop
-sub-i c = omega arith
-
-loop-less : tie.Need-loop-less Inv-loop μ-loop
-loop-less c = omega arith
-
 loop-again : tie.Need-loop-again Inv-loop μ-loop
 loop-again c = (omega arith, one-less (lnStep _) _ _ _ (c .before .loop-test .taken) (rw one-is) ∙ c .before .before .loop .inv .1)
 
@@ -52,10 +37,10 @@ ln-sum-spec =
     Inv-loop
     μ-loop
     loop-holds
-    mul-s
-    sub-s
-    int-to-float-s
-    sub-i
-    loop-less
+    (λ c. omega arith)
+    (λ c. omega arith)
+    (λ c. tt)
+    (λ c. omega arith)
+    (λ c. omega arith)
     loop-again
     returns)

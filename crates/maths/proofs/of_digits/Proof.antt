@@ -6,15 +6,9 @@ use Rattle.number.specs.Next.{no-nan-below}
 use Rattle.maths.proofs.of_digits.Statement.{statement}
 use Rattle.maths.proofs.of_digits.Tie as tie
 
-add-result : tie.Need-add-result
-add-result c = search needs
-
 float-from-bits-result : tie.Need-float-from-bits-result
 unfolding toBits
 float-from-bits-result c = no-nan-below binary64 _ (omega arith)
 
-returns : tie.Need-returns
-returns c = search needs
-
 pub of-digits-spec : {M : Type 1} → statement M
-of-digits-spec = tie.close (tie.spec add-result float-from-bits-result returns)
+of-digits-spec = tie.close (tie.spec (λ c. search needs) float-from-bits-result (λ c. search needs))

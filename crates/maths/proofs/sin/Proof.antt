@@ -6,18 +6,6 @@ use Rattle.maths.specs.Trig.{sinOf}
 use Rattle.maths.proofs.sin.Statement.{statement}
 use Rattle.maths.proofs.sin.Tie as tie
 
-turn-of-requires : tie.Need-turn-of-requires
-turn-of-requires c κs = search needs
-
-enum-told : tie.Need-enum-told
-enum-told c = search needs
-
-enum-known-q : tie.Need-enum-known-q
-enum-known-q c = search needs
-
-sin-by-requires : tie.Need-sin-by-requires
-sin-by-requires c κs = search needs
-
 returns : tie.Need-returns
 unfolding sinOf
 returns c = simp (sym (c .before .before .turn-of .ensures) ∙ c .enum-told .given .1, undefined)
@@ -27,5 +15,4 @@ unfolding sinOf
 returns-2 c = simp (sym (c .before .before .before .before .turn-of .ensures) ∙ c .before .before .q .given .1) (c .sin-by .ensures)
 
 pub sin-spec : {M : Type 1} → statement M
-sin-spec =
-    tie.close (tie.spec turn-of-requires enum-told enum-known-q sin-by-requires returns returns-2)
+sin-spec = tie.close (tie.spec (λ c κs. search needs) (λ c. search needs) (λ c. search needs) (λ c κs. search needs) returns returns-2)

@@ -20,23 +20,8 @@ abbrev μ-loop : tie.MeasureT-loop
 loop-holds : tie.Need-loop-holds Inv-loop μ-loop
 loop-holds c = (omega arith, simp (one-is))
 
-mul-d : tie.Need-mul-d Inv-loop μ-loop
-mul-d c = omega arith
-
-add-s : tie.Need-add-s Inv-loop μ-loop
-add-s c = omega arith
-
 mul-s : tie.Need-mul-s Inv-loop μ-loop
 mul-s c = record { fits = lt-of-le-of-lt (mul-le-mul {n₂ = 16} {m₂ = 17} (omega arith) (omega arith)) (lit< tt) }
-
-int-to-float-s : tie.Need-int-to-float-s Inv-loop μ-loop
-int-to-float-s c = tt
-
-sub-i : tie.Need-sub-i Inv-loop μ-loop
-sub-i c = omega arith
-
-loop-less : tie.Need-loop-less Inv-loop μ-loop
-loop-less c = omega arith
 
 loop-again : tie.Need-loop-again Inv-loop μ-loop
 loop-again c = (omega arith, one-less (sinStep _) _ _ _ (c .before .loop-test .taken) (rw one-is) ∙ c .before .before .loop .inv .1)
@@ -51,11 +36,11 @@ sin-sum-spec =
     Inv-loop
     μ-loop
     loop-holds
-    mul-d
-    add-s
+    (λ c. omega arith)
+    (λ c. omega arith)
     mul-s
-    int-to-float-s
-    sub-i
-    loop-less
+    (λ c. tt)
+    (λ c. omega arith)
+    (λ c. omega arith)
     loop-again
     returns)

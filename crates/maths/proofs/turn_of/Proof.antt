@@ -26,9 +26,6 @@ returns : tie.Need-returns
 unfolding turnOf if_then_else_
 returns c = simp (nan-test, c .if1 .taken)
 
-abs-requires : tie.Need-abs-requires
-abs-requires c κs = search needs
-
 returns-2 : tie.Need-returns-2
 unfolding turnOf if_then_else_
 returns-2 c = simp (real (c .before .before), far, sym (c .before .abs .ensures), c .if2 .taken)
@@ -57,13 +54,4 @@ returns-3 c =
     (cc (n-is n, n .turns-of .ensures .0, c .before .quarter-of .ensures, c .rest-of .ensures))
 
 pub turn-of-spec : {M : Type 1} → statement M
-turn-of-spec =
-    tie.close
-    (tie.spec
-    returns
-    abs-requires
-    returns-2
-    turns-of-requires
-    quarter-of-requires
-    rest-of-requires
-    returns-3)
+turn-of-spec = tie.close (tie.spec returns (λ c κs. search needs) returns-2 turns-of-requires quarter-of-requires rest-of-requires returns-3)

@@ -6,12 +6,9 @@ use Rattle.number.specs.Next.{nextDown}
 use Rattle.number.proofs.next_down.Statement.{statement}
 use Rattle.number.proofs.next_down.Tie as tie
 
-next-up-requires : tie.Need-next-up-requires
-next-up-requires c κs = search needs
-
 returns : tie.Need-returns
 unfolding nextDown
 returns c = ap neg (c .next-up .ensures)
 
 pub next-down-spec : {M : Type 1} → statement M
-next-down-spec = tie.close (tie.spec next-up-requires returns)
+next-down-spec = tie.close (tie.spec (λ c κs. search needs) returns)

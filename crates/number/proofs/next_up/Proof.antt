@@ -47,9 +47,6 @@ returns-3 c = sym (nextUp-negative binary64 (c .before .before .before .args .x)
 float-to-bits-b : tie.Need-float-to-bits-b
 float-to-bits-b c = number-of (c .before .before .before .args .x) (c .before .before .if1 .left)
 
-add-result : tie.Need-add-result
-add-result c = search needs
-
 float-from-bits-result-3 : tie.Need-float-from-bits-result-3
 unfolding toBits
 float-from-bits-result-3 c = no-nan-bits binary64 (toBits binary64 (c .before .before .before .before .args .x) + 1) (omega arith)
@@ -91,7 +88,7 @@ next-up-spec =
     float-from-bits-result-2
     returns-3
     float-to-bits-b
-    add-result
+    (λ c. search needs)
     float-from-bits-result-3
     returns-4
     returns-5)

@@ -1,5 +1,5 @@
 -- `tree::num_vars` meets its contract: the node's number falls at each call. Assumes nothing.
-use Prim.Native.Nat.{max, ℕ, _<_}
+use Prim.Native.Nat.{ℕ, max}
 use mathlib.Core.Path.{sym, ap, ap₂, _∙_}
 use native.Mathlib.Numerals.{add-one}
 use native.Mathlib.Omega.{arith}
@@ -7,7 +7,8 @@ use borrow.Author.Needs.{needs}
 use Rattle.tree.specs.NodeLaws.{index-small, tree-one, tree-const, tree-var, record-there, at-left, at-right, tree-is}
 use Rattle.tree.specs.Tree.{treeVars}
 use borrow.Fn.Kinds.{In}
-use borrow.Fn.PlainCycle.{Measures, is, falls, and}
+use borrow.Fn.PlainCycle.{Measures}
+use Rattle.tree.proofs.Cycle.{at, below}
 use Rattle.tree.proofs.num_vars.Reads as num-vars
 use Rattle.tree.proofs.num_vars.Kinds as num-vars-kinds
 use Rattle.tree.proofs.+num_vars.Lts-num_vars as num-vars-lts
@@ -20,14 +21,10 @@ abbrev μ-num-vars : Measures 1 num-vars-kinds.ps ℕ
 μ-num-vars κs a = a .1 .0
 
 abbrev num-vars-at : ℕ → In 1 num-vars-kinds.ps
-num-vars-at t = and 1 num-vars-kinds.ps (is 1 num-vars-kinds.ps μ-num-vars t) num-vars.Pre
-
-abbrev num-vars-below : ℕ → In 1 num-vars-kinds.ps
-num-vars-below t =
-    and 1 num-vars-kinds.ps (falls 1 num-vars-kinds.ps _<_ μ-num-vars t) num-vars.Pre
+num-vars-at = at num-vars-kinds.ps μ-num-vars num-vars.Pre
 
 abbrev num-vars-calls : ℕ → num-vars-lts.Claims
-num-vars-calls t = (node-in-reads.Asked, node-in-reads.Learnt, num-vars-below t, num-vars.Post, larger-reads.Asked, larger-reads.Learnt)
+num-vars-calls t = (node-in-reads.Asked, node-in-reads.Learnt, below num-vars-kinds.ps μ-num-vars num-vars.Pre t, num-vars.Post, larger-reads.Asked, larger-reads.Learnt)
 
 num-vars-node-in-requires : (t : ℕ) → num-vars-lts.Need-node-in-requires (num-vars-calls t) (num-vars-at t) num-vars.Post
 num-vars-node-in-requires t c κs = record-there _ _ (c .before .pre .1)

@@ -42,8 +42,9 @@ returns-2 c =
     let at8 = c .before .before .before .before .before .before .before .before in
     let at10 = at8 .before .before in
     let m = at10 .measure-operands .ensures .1 (at8 .if1 .left) in
-    c .result-refusal .ensures
-    ∙ sub-late _ _ _ _ _ _ (sym (at8 .if1 .left) ∙ at10 .measure-operands .ensures .0) (ap₂ (λ (s t : ℕ). 9 + s + t) (m .0 .size-is) (m .1 .size-is)) (c .before .larger .ensures ∙ ap₂ (λ (s t : ℕ). max (4 + s) (2 + t)) (m .0 .depth-is) (m .1 .depth-is))
+    let none = sym (at8 .if1 .left) ∙ at10 .measure-operands .ensures .0 in
+    let deep = c .before .larger .ensures ∙ ap₂ (λ (s t : ℕ). max (4 + s) (2 + t)) (m .0 .depth-is) (m .1 .depth-is) in
+    c .result-refusal .ensures ∙ sub-late _ _ _ _ _ _ none (ap₂ (λ (s t : ℕ). 9 + s + t) (m .0 .size-is) (m .1 .size-is)) deep
 
 pub sub-refusal-spec : {M : Type 1} → statement M
 sub-refusal-spec =

@@ -8,7 +8,7 @@ use borrow.Author.Tests.{not-true, not-false}
 use denote.Ref.{now}
 use lib.ListN.{length, length-set}
 use Rattle.tree.specs.Tree.{size, depth}
-use Rattle.tree.specs.Refusal.{first, filled}
+use Rattle.record.specs.Refusal.{first, filled}
 use Rattle.tree.specs.Nodes.{treeAt, isNode}
 use Rattle.tree.specs.Code.{sizeBy, depthBy, Known}
 use Rattle.tree.specs.declared.Node.{Node}
@@ -51,7 +51,9 @@ measure-requires : tie.Need-measure-requires Inv-loop μ-loop
 measure-requires c κs =
     let at4 = c .before .before .before .before in
     let at6 = at4 .before .before in
-    subst (λ (m : Node). Known m (at6 .loop .size) (at6 .loop .depth)) (sym (c .before .before .node-in .ensures)) (asked _ _ _ _ _ _ _ (at6 .loop .inv .1) _ (at4 .before .loop-test .taken) (omega arith) (omega arith) (sym (at4 .is-node .ensures) ∙ not-false _ (c .before .before .before .if1 .left)) (omega arith) (omega arith))
+    let is = sym (at4 .is-node .ensures) ∙ not-false _ (c .before .before .before .if1 .left) in
+    subst (λ (m : Node). Known m (at6 .loop .size) (at6 .loop .depth)) (sym (c .before .before .node-in .ensures))
+    (asked _ _ _ _ _ _ _ (at6 .loop .inv .1) _ (at4 .before .loop-test .taken) (omega arith) (omega arith) is (omega arith) (omega arith))
 
 returns-2 : tie.Need-returns-2 Inv-loop μ-loop
 returns-2 c =

@@ -1,6 +1,6 @@
 -- `tree::write_eml` meets its contract. Assumes nothing.
 use borrow.Author.Needs.{needs}
-use Rattle.tree.specs.Canonical.{nodeBytes}
+use Rattle.tree.specs.Encoding.{nodeBytes}
 use Rattle.tree.proofs.write_eml.Statement.{statement}
 use Rattle.tree.proofs.write_eml.Tie as tie
 

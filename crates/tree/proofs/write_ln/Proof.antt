@@ -3,7 +3,7 @@ use Prim.Native.Nat.{_+_}
 use mathlib.Core.List.{[], _∷_}
 use mathlib.Core.Path.{refl}
 use borrow.Author.Needs.{needs}
-use Rattle.tree.specs.Writing.{one-node, then-node}
+use Rattle.tree.specs.EncodingLaws.{one-node, then-node}
 use Rattle.tree.specs.declared.Node.{Node}
 use Rattle.tree.proofs.write_ln.Statement.{statement}
 use Rattle.tree.proofs.write_ln.Tie as tie

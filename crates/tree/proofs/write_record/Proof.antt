@@ -1,6 +1,6 @@
 -- `tree::write_record` meets its contract: four words, one after the other. Assumes nothing.
 use borrow.Author.Needs.{needs}
-use Rattle.tree.specs.Writing.{four-words}
+use Rattle.record.specs.ByteLaws.{four-words}
 use Rattle.tree.proofs.write_record.Statement.{statement}
 use Rattle.tree.proofs.write_record.Tie as tie
 

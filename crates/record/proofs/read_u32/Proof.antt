@@ -1,9 +1,9 @@
--- `tree::read_u32` meets its contract: the sum of four bytes fits a u32. Assumes nothing.
+-- `record::read_u32` meets its contract: the sum of four bytes fits a u32. Assumes nothing.
 use native.Mathlib.Omega.{arith}
 use borrow.Author.Needs.{needs}
-use Rattle.tree.specs.Bytes.{u32At}
-use Rattle.tree.proofs.read_u32.Statement.{statement}
-use Rattle.tree.proofs.read_u32.Tie as tie
+use Rattle.record.specs.Bytes.{u32At}
+use Rattle.record.proofs.read_u32.Statement.{statement}
+use Rattle.record.proofs.read_u32.Tie as tie
 
 returns : tie.Need-returns
 unfolding u32At

@@ -1,10 +1,10 @@
--- `tree::read_f64` meets its contract. Assumes nothing.
+-- `record::read_f64` meets its contract. Assumes nothing.
 use mathlib.Core.Path.{_∙_, ap}
 use borrow.Author.Needs.{needs}
 use lib.Ieee.{binary64, ofBits}
-use Rattle.tree.specs.Bytes.{f64At}
-use Rattle.tree.proofs.read_f64.Statement.{statement}
-use Rattle.tree.proofs.read_f64.Tie as tie
+use Rattle.record.specs.Bytes.{f64At}
+use Rattle.record.proofs.read_f64.Statement.{statement}
+use Rattle.record.proofs.read_f64.Tie as tie
 
 returns : tie.Need-returns
 unfolding f64At

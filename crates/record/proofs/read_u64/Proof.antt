@@ -1,9 +1,9 @@
--- `tree::read_u64` meets its contract. Assumes nothing.
+-- `record::read_u64` meets its contract. Assumes nothing.
 use native.Mathlib.Omega.{arith}
 use borrow.Author.Needs.{needs}
-use Rattle.tree.specs.Bytes.{u64At}
-use Rattle.tree.proofs.read_u64.Statement.{statement}
-use Rattle.tree.proofs.read_u64.Tie as tie
+use Rattle.record.specs.Bytes.{u64At}
+use Rattle.record.proofs.read_u64.Statement.{statement}
+use Rattle.record.proofs.read_u64.Tie as tie
 
 returns : tie.Need-returns
 unfolding u64At

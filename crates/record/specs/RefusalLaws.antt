@@ -12,7 +12,7 @@ use lib.Dec.{eqb}
 use lib.ListN.{length, getD, set, length-set}
 use lib.Seq.{getD-set-same, getD-set-other}
 use Rattle.number.specs.Notation.{if_then_else_}
-use Rattle.tree.specs.Refusal.{_or-else_, _unless_, first, passing, filled}
+use Rattle.record.specs.Refusal.{_or-else_, _unless_, first, passing, filled}
 
 -- ---- two tests
 pub both : (a b : Bool) → (a && b) ≡ true → (a ≡ true) × (b ≡ true)

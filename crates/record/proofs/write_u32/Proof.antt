@@ -1,11 +1,11 @@
--- `tree::write_u32` meets its contract: its four stores are the definition's. Assumes nothing.
+-- `record::write_u32` meets its contract: its four stores are the definition's. Assumes nothing.
 use native.Mathlib.Omega.{arith}
 use native.Mathlib.Numerals.{add-one, add-two, add-three}
 use borrow.Author.Needs.{needs}
 use lib.ListN.{length-set}
-use Rattle.tree.specs.Bytes.{u32Bytes}
-use Rattle.tree.proofs.write_u32.Statement.{statement}
-use Rattle.tree.proofs.write_u32.Tie as tie
+use Rattle.record.specs.Bytes.{u32Bytes}
+use Rattle.record.proofs.write_u32.Statement.{statement}
+use Rattle.record.proofs.write_u32.Tie as tie
 
 slice-write-b-2 : tie.Need-slice-write-b-2
 slice-write-b-2 c = simp length-set (omega arith)
