@@ -1,4 +1,4 @@
 pub mod Lists
 pub mod Stack
-pub mod Walks
+pub mod Putting
 pub mod Outcomes

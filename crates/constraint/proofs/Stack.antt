@@ -10,127 +10,126 @@ use borrow.Author.Tests.{le-leb, lt-leb, eq-eqb, ne-eqb}
 use lib.Dec.{eqb}
 use lib.ListN.{length, getD, take, drop, set, length-append, length-drop}
 use lib.Seq.{length-take-le}
-use Rattle.tree.specs.Refusal.{_or-else_, _unless_, first, passing, filled}
-use Rattle.tree.specs.RefusalLaws.{none-more, passing-all, first-here, passing-here, filled-more}
-use Rattle.constraint.specs.Constraint.{Constraint, levels, levelsAll, quantifiers, quantifiersAll}
-use Rattle.constraint.specs.Records.{recordAt, isRecord, isRanged, takes, gather, none, finish, finished, constraintAt, recordRefusal, recordsRefusal}
-use Rattle.constraint.specs.Starts.{begun, startAt}
+use Rattle.record.specs.Refusal.{_or-else_, _unless_, first, filled}
+use Rattle.record.specs.RefusalLaws.{none-more, passing-all, first-here, passing-here, filled-more}
+use Rattle.constraint.specs.Constraint.{Formula, levels, levelsAll, quantifiers, quantifiersAll}
+use Rattle.constraint.specs.Records.{recordAt, isRecord, isRanged, takes, gather, none, finish, finished, formulaAt, recordRefusal, recordsRefusal}
+use Rattle.constraint.specs.Starts.{begun, startAt, startsOf}
 use Rattle.constraint.specs.Code.{greatest, binds}
 use Rattle.constraint.specs.declared.Record.{Record}
 use Rattle.constraint.proofs.Lists.{kept, kept-map, map-drop}
 
 -- ---- what a record finishes, by the greatest of what it takes
-levels-all : (cs : List Constraint) → levelsAll (gather cs) ≡ greatest (map levels cs)
+levels-all : (cs : List (Formula ℕ)) → levelsAll (gather cs) ≡ greatest (map levels cs)
 unfolding gather greatest levelsAll
 levels-all [] = refl
 levels-all (c ∷ cs) = ap (max (levels c)) (levels-all cs)
 
-quantifiers-all : (cs : List Constraint) → quantifiersAll (gather cs) ≡ greatest (map quantifiers cs)
+quantifiers-all : (cs : List (Formula ℕ)) → quantifiersAll (gather cs) ≡ greatest (map quantifiers cs)
 unfolding gather greatest quantifiersAll
 quantifiers-all [] = refl
 quantifiers-all (c ∷ cs) = ap (max (quantifiers c)) (quantifiers-all cs)
 
-module _ (f : Constraint → ℕ) where
-  none-taken : (cs : List Constraint) → length cs ≡ 0 → greatest (map f cs) ≡ 0
+module _ (f : Formula ℕ → ℕ) where
+  none-taken : (cs : List (Formula ℕ)) → length cs ≡ 0 → greatest (map f cs) ≡ 0
   unfolding greatest
   none-taken [] e = refl
   none-taken (c ∷ cs) e = absurd (omega arith)
 
-  one-taken : (cs : List Constraint) → length cs ≡ 1 → f (getD cs 0 none) ≡ greatest (map f cs)
+  one-taken : (cs : List (Formula ℕ)) → length cs ≡ 1 → f (getD cs 0 none) ≡ greatest (map f cs)
   unfolding greatest
   one-taken [] e = absurd (omega arith)
   one-taken (c ∷ []) e = omega arith
   one-taken (c ∷ c′ ∷ cs) e = absurd (omega arith)
 
-module _ (nodes : List ℕ) where
-  levels-is : (x : Record) (cs : List Constraint) → length cs ≡ takes x → levels (finish nodes x cs) ≡ 1 + greatest (map levels cs)
-  unfolding levels finish
-  levels-is (Record.Atom rel i) cs e = omega (arith, none-taken levels cs e)
-  levels-is Record.Not cs e = omega (arith, one-taken levels cs e)
-  levels-is (Record.And m) cs e = omega (arith, levels-all cs)
-  levels-is (Record.Or m) cs e = omega (arith, levels-all cs)
-  levels-is (Record.ForAll v lo hi) cs e = omega (arith, one-taken levels cs e)
-  levels-is (Record.Exists v lo hi) cs e = omega (arith, one-taken levels cs e)
+levels-is : (x : Record) (cs : List (Formula ℕ)) → length cs ≡ takes x → levels (finish x cs) ≡ 1 + greatest (map levels cs)
+unfolding levels finish
+levels-is (Record.Atom rel i) cs e = omega (arith, none-taken levels cs e)
+levels-is Record.Not cs e = omega (arith, one-taken levels cs e)
+levels-is (Record.And m) cs e = omega (arith, levels-all cs)
+levels-is (Record.Or m) cs e = omega (arith, levels-all cs)
+levels-is (Record.ForAll v lo hi) cs e = omega (arith, one-taken levels cs e)
+levels-is (Record.Exists v lo hi) cs e = omega (arith, one-taken levels cs e)
 
-  quantifiers-is : (x : Record) (cs : List Constraint) → length cs ≡ takes x → quantifiers (finish nodes x cs) ≡ binds x + greatest (map quantifiers cs)
-  unfolding quantifiers finish
-  quantifiers-is (Record.Atom rel i) cs e = omega (arith, none-taken quantifiers cs e)
-  quantifiers-is Record.Not cs e = omega (arith, one-taken quantifiers cs e)
-  quantifiers-is (Record.And m) cs e = omega (arith, quantifiers-all cs)
-  quantifiers-is (Record.Or m) cs e = omega (arith, quantifiers-all cs)
-  quantifiers-is (Record.ForAll v lo hi) cs e = omega (arith, one-taken quantifiers cs e)
-  quantifiers-is (Record.Exists v lo hi) cs e = omega (arith, one-taken quantifiers cs e)
+quantifiers-is : (x : Record) (cs : List (Formula ℕ)) → length cs ≡ takes x → quantifiers (finish x cs) ≡ binds x + greatest (map quantifiers cs)
+unfolding quantifiers finish
+quantifiers-is (Record.Atom rel i) cs e = omega (arith, none-taken quantifiers cs e)
+quantifiers-is Record.Not cs e = omega (arith, one-taken quantifiers cs e)
+quantifiers-is (Record.And m) cs e = omega (arith, quantifiers-all cs)
+quantifiers-is (Record.Or m) cs e = omega (arith, quantifiers-all cs)
+quantifiers-is (Record.ForAll v lo hi) cs e = omega (arith, one-taken quantifiers cs e)
+quantifiers-is (Record.Exists v lo hi) cs e = omega (arith, one-taken quantifiers cs e)
 
 -- ---- the stack: one depth and one number of quantifiers of each finished constraint
-pub record Stacked (nodes : List ℕ) (n : ℕ) (b : List ℕ) (k top : ℕ) (d q : List ℕ) : Type 0 where
-  pub none-yet : first (recordRefusal nodes n b) k ≡ 0
-  pub height : length (finished nodes b k) ≡ top
-  pub depths : take top d ≡ map levels (finished nodes b k)
-  pub quants : take top q ≡ map quantifiers (finished nodes b k)
+pub record Stacked (n : ℕ) (b : List ℕ) (k top : ℕ) (d q : List ℕ) : Type 0 where
+  pub none-yet : first (recordRefusal n b) k ≡ 0
+  pub height : length (finished b k) ≡ top
+  pub depths : take top d ≡ map levels (finished b k)
+  pub quants : take top q ≡ map quantifiers (finished b k)
 
-module _ (nodes : List ℕ) (n : ℕ) (b : List ℕ) (k top : ℕ) (d q : List ℕ) (p : Stacked nodes n b k top d q) where
+module _ (n : ℕ) (b : List ℕ) (k top : ℕ) (d q : List ℕ) (p : Stacked n b k top d q) where
   -- the tests, in order
-  pub five-record : isRecord n b k ≡ false → recordRefusal nodes n b k ≡ 5
+  pub five-record : isRecord n b k ≡ false → recordRefusal n b k ≡ 5
   unfolding recordRefusal
   five-record e = simp e
 
   -- record k is x, and takes m
   module _ (is : isRecord n b k ≡ true) (x : Record) (ix : x ≡ recordAt b k) (m : ℕ) (im : m ≡ takes x) where
-    pub five-few : top < m → recordRefusal nodes n b k ≡ 5
+    pub five-few : top < m → recordRefusal n b k ≡ 5
     unfolding recordRefusal
     five-few l = simp (is, p .height, sym ix, sym im, lt-leb _ _ l)
 
     module _ (enough : m ≤ top) where
-      pub six : isRanged x ≡ false → recordRefusal nodes n b k ≡ 6
+      pub six : isRanged x ≡ false → recordRefusal n b k ≡ 6
       unfolding recordRefusal
       six e = simp (is, p .height, sym ix, sym im, le-leb _ _ enough, e)
 
       module _ (ranged : isRanged x ≡ true) where
-        pub seven-depth : 16 < levels (constraintAt nodes b k) → recordRefusal nodes n b k ≡ 7
+        pub seven-depth : 16 < levels (formulaAt b k) → recordRefusal n b k ≡ 7
         unfolding recordRefusal
         seven-depth l = simp (is, p .height, sym ix, sym im, le-leb _ _ enough, ranged, lt-leb _ _ l)
 
-        pub seven-quant : levels (constraintAt nodes b k) ≤ 16 → 4 < quantifiers (constraintAt nodes b k) → recordRefusal nodes n b k ≡ 7
+        pub seven-quant : levels (formulaAt b k) ≤ 16 → 4 < quantifiers (formulaAt b k) → recordRefusal n b k ≡ 7
         unfolding recordRefusal
         seven-quant h l = simp (is, p .height, sym ix, sym im, le-leb _ _ enough, ranged, le-leb _ _ h, lt-leb _ _ l)
 
-        none-here : levels (constraintAt nodes b k) ≤ 16 → quantifiers (constraintAt nodes b k) ≤ 4 → recordRefusal nodes n b k ≡ 0
+        none-here : levels (formulaAt b k) ≤ 16 → quantifiers (formulaAt b k) ≤ 4 → recordRefusal n b k ≡ 0
         unfolding recordRefusal
         none-here h l = simp (is, p .height, sym ix, sym im, le-leb _ _ enough, ranged, le-leb _ _ h, le-leb _ _ l)
 
       -- what is taken and what is left
-      base-is : length (finished nodes b k) - takes (recordAt b k) ≡ top - m
+      base-is : length (finished b k) - takes (recordAt b k) ≡ top - m
       base-is = ap₂ (λ (u w : ℕ). u - w) (p .height) (sym (im ∙ ap takes ix))
 
-      new-is : constraintAt nodes b k ≡ finish nodes x (drop (top - m) (finished nodes b k))
-      unfolding constraintAt
-      new-is = ap₂ (λ (y : Record) (i : ℕ). finish nodes y (drop i (finished nodes b k))) (sym ix) base-is
+      new-is : formulaAt b k ≡ finish x (drop (top - m) (finished b k))
+      unfolding formulaAt
+      new-is = ap₂ (λ (y : Record) (i : ℕ). finish y (drop i (finished b k))) (sym ix) base-is
 
-      next-is : finished nodes b (k + 1) ≡ take (top - m) (finished nodes b k) ++ constraintAt nodes b k ∷ []
-      unfolding finished constraintAt
-      next-is = ap (finished nodes b) (add-one k) ∙ ap (λ (i : ℕ). take i (finished nodes b k) ++ constraintAt nodes b k ∷ []) base-is
+      next-is : finished b (k + 1) ≡ take (top - m) (finished b k) ++ formulaAt b k ∷ []
+      unfolding finished formulaAt
+      next-is = ap (finished b) (add-one k) ∙ ap (λ (i : ℕ). take i (finished b k) ++ formulaAt b k ∷ []) base-is
 
-      taken-length : length (drop (top - m) (finished nodes b k)) ≡ takes x
-      taken-length = length-drop (top - m) (finished nodes b k) ∙ omega (arith, p .height)
+      taken-length : length (drop (top - m) (finished b k)) ≡ takes x
+      taken-length = length-drop (top - m) (finished b k) ∙ omega (arith, p .height)
 
-      mapped : (f : Constraint → ℕ) (l : List ℕ) → take top l ≡ map f (finished nodes b k) →
-          greatest (drop (top - m) (take top l)) ≡ greatest (map f (drop (top - m) (finished nodes b k)))
-      mapped f l e = ap (λ (a : List ℕ). greatest (drop (top - m) a)) e ∙ ap greatest (map-drop f (top - m) (finished nodes b k))
+      mapped : (f : Formula ℕ → ℕ) (l : List ℕ) → take top l ≡ map f (finished b k) →
+          greatest (drop (top - m) (take top l)) ≡ greatest (map f (drop (top - m) (finished b k)))
+      mapped f l e = ap (λ (a : List ℕ). greatest (drop (top - m) a)) e ∙ ap greatest (map-drop f (top - m) (finished b k))
 
-      pub depth-told : 1 + greatest (drop (top - m) (take top d)) ≡ levels (constraintAt nodes b k)
-      depth-told = ap (λ (u : ℕ). 1 + u) (mapped levels d (p .depths)) ∙ sym (ap levels new-is ∙ levels-is nodes x _ taken-length)
+      pub depth-told : 1 + greatest (drop (top - m) (take top d)) ≡ levels (formulaAt b k)
+      depth-told = ap (λ (u : ℕ). 1 + u) (mapped levels d (p .depths)) ∙ sym (ap levels new-is ∙ levels-is x _ taken-length)
 
-      pub quant-told : binds x + greatest (drop (top - m) (take top q)) ≡ quantifiers (constraintAt nodes b k)
-      quant-told = ap (λ (u : ℕ). binds x + u) (mapped quantifiers q (p .quants)) ∙ sym (ap quantifiers new-is ∙ quantifiers-is nodes x _ taken-length)
+      pub quant-told : binds x + greatest (drop (top - m) (take top q)) ≡ quantifiers (formulaAt b k)
+      quant-told = ap (λ (u : ℕ). binds x + u) (mapped quantifiers q (p .quants)) ∙ sym (ap quantifiers new-is ∙ quantifiers-is x _ taken-length)
 
-      pub stacked : (u w : ℕ) → isRanged x ≡ true → u ≡ levels (constraintAt nodes b k) → w ≡ quantifiers (constraintAt nodes b k) → u ≤ 16 → w ≤ 4 →
-          top < 256 → length d ≡ 256 → length q ≡ 256 → Stacked nodes n b (k + 1) (top - m + 1) (set d (top - m) u) (set q (top - m) w)
+      pub stacked : (u w : ℕ) → isRanged x ≡ true → u ≡ levels (formulaAt b k) → w ≡ quantifiers (formulaAt b k) → u ≤ 16 → w ≤ 4 →
+          top < 256 → length d ≡ 256 → length q ≡ 256 → Stacked n b (k + 1) (top - m + 1) (set d (top - m) u) (set q (top - m) w)
       stacked u w ranged eu ew h l room ld lq = record {
-        none-yet = none-more (recordRefusal nodes n b) k (p .none-yet) (none-here ranged (omega arith) (omega arith));
-        height = ap length next-is ∙ length-append (take (top - m) (finished nodes b k)) (constraintAt nodes b k ∷ [])
-            ∙ omega (arith, length-take-le (top - m) (finished nodes b k) (omega (arith, p .height)));
-        depths = kept-map levels d (finished nodes b k) top (top - m) u (constraintAt nodes b k) (p .depths) (omega arith) (omega arith) eu ∙ ap (map levels) (sym next-is);
-        quants = kept-map quantifiers q (finished nodes b k) top (top - m) w (constraintAt nodes b k) (p .quants) (omega arith) (omega arith) ew ∙ ap (map quantifiers) (sym next-is);
+        none-yet = none-more (recordRefusal n b) k (p .none-yet) (none-here ranged (omega arith) (omega arith));
+        height = ap length next-is ∙ length-append (take (top - m) (finished b k)) (formulaAt b k ∷ [])
+            ∙ omega (arith, length-take-le (top - m) (finished b k) (omega (arith, p .height)));
+        depths = kept-map levels d (finished b k) top (top - m) u (formulaAt b k) (p .depths) (omega arith) (omega arith) eu ∙ ap (map levels) (sym next-is);
+        quants = kept-map quantifiers q (finished b k) top (top - m) w (formulaAt b k) (p .quants) (omega arith) (omega arith) ew ∙ ap (map quantifiers) (sym next-is);
       }
 
 -- ---- where each finished constraint starts
@@ -159,36 +158,34 @@ module _ (b : List ℕ) (k top : ℕ) (f s₀ s : List ℕ) (p : Begun b k top f
     started = ap₂ (λ (l : List ℕ) (y : ℕ). set l k y) (p .started) e ∙ filled-more (startAt b) s₀ k;
   }
 
--- ---- the answer, whatever the nodes say
+-- ---- the answer
 abbrev pub Answer : ℕ → List ℕ → ℕ → List ℕ → List ℕ → ℕ → Type 0
-Answer n b m s₀ s r =
-    ((nodes : List ℕ) → r ≡ recordsRefusal nodes n b m)
-    × ((nodes : List ℕ) → s ≡ filled (startAt b) (passing (recordRefusal nodes n b) m) s₀)
+Answer n b m s₀ s r = (r ≡ recordsRefusal n b m) × (s ≡ startsOf n b m s₀)
 
-module _ (n : ℕ) (b : List ℕ) (m k top : ℕ) (f d q s₀ s : List ℕ) (w : Begun b k top f s₀ s) (p : (nodes : List ℕ) → Stacked nodes n b k top d q) where
+module _ (n : ℕ) (b : List ℕ) (m k top : ℕ) (f d q s₀ s : List ℕ) (w : Begun b k top f s₀ s) (p : Stacked n b k top d q) where
   -- record k is refused
-  pub stop : (r : ℕ) → k < m → ((nodes : List ℕ) → recordRefusal nodes n b k ≡ suc r) → Answer n b m s₀ s (suc r)
+  pub stop : (r : ℕ) → k < m → recordRefusal n b k ≡ suc r → Answer n b m s₀ s (suc r)
   unfolding recordsRefusal
   stop r l e = (
-    λ nodes. sym (ap (λ (x : ℕ). x or-else 7 unless eqb (length (finished nodes b m)) 1) (first-here (recordRefusal nodes n b) r k (p nodes .none-yet) (e nodes) m l)),
-    λ nodes. w .started ∙ ap (λ (j : ℕ). filled (startAt b) j s₀) (sym (passing-here (recordRefusal nodes n b) r k (p nodes .none-yet) (e nodes) m l)),
+    sym (ap (λ (x : ℕ). x or-else 7 unless eqb (length (finished b m)) 1) (first-here (recordRefusal n b) r k (p .none-yet) e m l)),
+    w .started ∙ ap (λ (j : ℕ). filled (startAt b) j s₀) (sym (passing-here (recordRefusal n b) r k (p .none-yet) e m l)),
   )
 
   -- all passed
   module _ (h : m ≤ k) (g : k ≤ m) where
-    all-passed : (nodes : List ℕ) → first (recordRefusal nodes n b) m ≡ 0
-    all-passed nodes = ap (first (recordRefusal nodes n b)) (le-antisymm h g) ∙ p nodes .none-yet
+    all-passed : first (recordRefusal n b) m ≡ 0
+    all-passed = ap (first (recordRefusal n b)) (le-antisymm h g) ∙ p .none-yet
 
-    left : (nodes : List ℕ) → length (finished nodes b m) ≡ top
-    left nodes = ap (λ (j : ℕ). length (finished nodes b j)) (le-antisymm h g) ∙ p nodes .height
+    left : length (finished b m) ≡ top
+    left = ap (λ (j : ℕ). length (finished b j)) (le-antisymm h g) ∙ p .height
 
-    started : (nodes : List ℕ) → s ≡ filled (startAt b) (passing (recordRefusal nodes n b) m) s₀
-    started nodes = w .started ∙ ap (λ (j : ℕ). filled (startAt b) j s₀) (sym (passing-all (recordRefusal nodes n b) m (all-passed nodes) ∙ le-antisymm h g))
+    started : s ≡ startsOf n b m s₀
+    started = w .started ∙ ap (λ (j : ℕ). filled (startAt b) j s₀) (sym (passing-all (recordRefusal n b) m all-passed ∙ le-antisymm h g))
 
     pub one-left : top ≡ 1 → Answer n b m s₀ s 0
     unfolding recordsRefusal
-    one-left e = (λ nodes. simp (all-passed nodes, left nodes, eq-eqb _ _ e), started)
+    one-left e = (simp (all-passed, left, eq-eqb _ _ e), started)
 
     pub not-one : (top ≡ 1 → ⊥) → Answer n b m s₀ s 7
     unfolding recordsRefusal
-    not-one e = (λ nodes. simp (all-passed nodes, left nodes, ne-eqb _ _ e), started)
+    not-one e = (simp (all-passed, left, ne-eqb _ _ e), started)

@@ -1,6 +1,6 @@
 -- What a comparison writes is the Rust's constraint: the atom on x - y. Assumes nothing.
 use Prim.Native.Nat.{ℕ, zero, suc, _+_, _*_, _≤_, _<_}
-use mathlib.Core.Path.{_≡_, refl, sym, ap, _∙_, subst₂}
+use mathlib.Core.Path.{_≡_, refl, sym, ap, _∙_}
 use mathlib.Core.Bool.{true}
 use mathlib.Core.List.{List}
 use native.Mathlib.Nat.{zero-add}
@@ -9,18 +9,21 @@ use borrow.Author.Tests.{leb-true}
 use lib.Dec.{leb}
 use lib.ListN.{length, getD}
 use lib.Seq.{sets}
-use Rattle.tree.specs.Refusal.{first}
-use Rattle.tree.specs.RefusalLaws.{none-both, none-unless}
-use Rattle.tree.specs.Writing.{sets-at}
+use Rattle.record.specs.Leaving.{Leaving, _leaving_}
+use Rattle.record.specs.Refusal.{first}
+use Rattle.record.specs.RefusalLaws.{none-both, none-unless}
+use Rattle.record.specs.ByteLaws.{sets-at}
 use Rattle.tree.specs.Tree.{Tree}
 use Rattle.tree.specs.Nodes.{treeAt}
-use Rattle.tree.specs.Canonical.{nodesBytes, subNodes, subRefusal, subTree, sub, _leaving_, append}
+use Rattle.tree.specs.Encoding.{nodesBytes}
+use Rattle.tree.specs.Canonical.{subNodes, subRefusal, subTree, sub, append}
 use Rattle.tree.specs.CanonicalLaws.{Means, sub-accepted, sub-appends}
 use Rattle.tree.specs.declared.Appended.{Appended}
-use Rattle.constraint.specs.Constraint.{Constraint, levels, quantifiers}
-use Rattle.constraint.specs.Records.{recordAt, isRecord, finish, finished, constraintAt, recordRefusal, recordsRefusal}
+use Rattle.constraint.specs.Constraint.{Atom, mapFormula, levels, quantifiers}
+use Rattle.constraint.specs.Records.{recordAt, isRecord, finish, finished, formulaAt, constraintAt, recordRefusal, recordsRefusal}
 use Rattle.constraint.specs.Writing.{length-record, record-same, is-record-same, read-back, is-record}
-use Rattle.constraint.specs.Comparison.{recordBytes, compareRefusal, _leaving_and_, comparedBy, compared}
+use Rattle.constraint.specs.Encoding.{recordBytes}
+use Rattle.constraint.specs.Comparison.{compareRefusal, comparedBy, compared}
 use Rattle.constraint.specs.declared.Relation.{Relation}
 use Rattle.constraint.specs.declared.Record.{Record}
 
@@ -41,45 +44,54 @@ module _ (rel : Relation) (i : ℕ) (out : List ℕ) (few : i < 1024) (room : 24
   passes n l h = is-record-same written (recordBytes (Record.Atom rel i)) 0 0 byte n ∙ is-record n l (Record.Atom rel i) h
 
   -- alone it is a whole constraint, over a list that has its node
-  alone : (nodes : List ℕ) (n : ℕ) → n ≤ 1024 → i < n → (constraintAt nodes written 0 ≡ Constraint.Atom rel (treeAt nodes i)) × (recordsRefusal nodes n written 1 ≡ 0)
-  alone nodes n l h = (is, accepted)
+  alone : (nodes : List ℕ) (n : ℕ) → n ≤ 1024 → i < n → (constraintAt nodes written 0 ≡ Atom rel (treeAt nodes i)) × (recordsRefusal n written 1 ≡ 0)
+  alone nodes n l h = (unfold constraintAt mapFormula in ap (mapFormula (treeAt nodes)) is, accepted)
     where
-      is : constraintAt nodes written 0 ≡ Constraint.Atom rel (treeAt nodes i)
-      is = unfold constraintAt finish finished in rw record-is
+      is : formulaAt written 0 ≡ Atom rel i
+      is = unfold formulaAt finish finished in rw record-is
 
-      here : recordRefusal nodes n written 0 ≡ 0
+      here : recordRefusal n written 0 ≡ 0
       here = unfold recordRefusal finished levels quantifiers in rw (is, passes n l h, record-is)
 
-      accepted : recordsRefusal nodes n written 1 ≡ 0
+      accepted : recordsRefusal n written 1 ≡ 0
       accepted = unfold recordsRefusal first finished in rw (here, record-is)
 
 -- ---- a comparison, by its outcome
 pub record Compares (rel : Relation) (b c o : List ℕ) (n k : ℕ) (t : Tree) : Type 0 where
   pub appended : Means b c n k t
-  pub written-is : constraintAt c o 0 ≡ Constraint.Atom rel t
-  pub accepted : recordsRefusal c (k + 1) o 1 ≡ 0
+  pub written-is : constraintAt c o 0 ≡ Atom rel t
+  pub accepted : recordsRefusal (k + 1) o 1 ≡ 0
 
-outcome : (r : ℕ) (rel : Relation) (b : List ℕ) (n x y : ℕ) (out : List ℕ) (k : ℕ) (c o : List ℕ) → comparedBy r rel b n x y out ≡ (Appended.At k leaving c and o) →
+abbrev Outcome : Type 0
+Outcome = Leaving Appended (List ℕ × List ℕ)
+
+abbrev answered : Outcome → Appended
+answered w = w .answer
+
+outcome : (r : ℕ) (rel : Relation) (b : List ℕ) (n x y : ℕ) (out : List ℕ) (k : ℕ) (c o : List ℕ) → comparedBy r rel b n x y out ≡ (Appended.At k leaving (c, o)) →
     (r ≡ 0) × (n + 6 ≡ k) × (sets b (16 * n) (nodesBytes (subNodes n x y)) ≡ c) × (sets out 0 (recordBytes (Record.Atom rel (n + 6))) ≡ o)
-outcome zero rel b n x y out k c o e = (refl, cc, cc, cc)
-outcome (suc r) rel b n x y out k c o e = let z : _≡_ {A = ℕ} 0 1 = cc in absurd (omega arith)
+outcome zero rel b n x y out k c o e = let a = ap answered e in (refl, cc, ap (λ (w : Outcome). w .places .0) e, ap (λ (w : Outcome). w .places .1) e)
+outcome (suc r) rel b n x y out k c o e =
+    let a = ap answered e in
+    let z : _≡_ {A = ℕ} 0 1 = cc in
+    absurd (omega arith)
 
 module _ (rel : Relation) (b : List ℕ) (n x y : ℕ) (out : List ℕ) where
   no-refusal : compareRefusal b n x y out ≡ 0 → (subRefusal b n x y ≡ 0) × (24 ≤ length out)
   unfolding compareRefusal
   no-refusal e = let w = none-both (subRefusal b n x y) _ e in (w .0, leb-true _ _ (none-unless 9 (leb 24 (length out)) (w .1)))
 
-  as-sub : (c : List ℕ) → subRefusal b n x y ≡ 0 → sets b (16 * n) (nodesBytes (subNodes n x y)) ≡ c → sub b n x y ≡ (Appended.At (n + 6) leaving c)
+  as-sub : subRefusal b n x y ≡ 0 → sub b n x y ≡ append 0 b n (subNodes n x y) (n + 6)
   unfolding sub
-  as-sub c z e = ap (λ (r : ℕ). append r b n (subNodes n x y) (n + 6)) z ∙ ap (λ (l : List ℕ). Appended.At (n + 6) leaving l) e
+  as-sub z = ap (λ (r : ℕ). append r b n (subNodes n x y) (n + 6)) z
 
-  pub compares : (k : ℕ) (c o : List ℕ) → compared rel b n x y out ≡ (Appended.At k leaving c and o) → Compares rel b c o n k (subTree (treeAt b x) (treeAt b y))
+  pub compares : (k : ℕ) (c o : List ℕ) → compared rel b n x y out ≡ (Appended.At k leaving (c, o)) → Compares rel b c o n k (subTree (treeAt b x) (treeAt b y))
   unfolding compared
   compares k c o e =
       let w = outcome (compareRefusal b n x y out) rel b n x y out k c o e in
       let f = no-refusal (w .0) in
       let a = sub-accepted b n x y (f .0) in
-      let m = sub-appends b n x y (n + 6) c (as-sub c (f .0) (w .2)) in
-      let s = alone rel (n + 6) out (omega arith) (f .1) c (n + 6 + 1) (omega (arith, a .2 .few)) (omega arith) in
-      subst₂ (λ (k : ℕ) (o : List ℕ). Compares rel b c o n k (subTree (treeAt b x) (treeAt b y))) (w .1) (w .3)
-      (record { appended = m; written-is = s .0 ∙ ap (Constraint.Atom rel) (m .result); accepted = s .1 })
+      let l = sets b (16 * n) (nodesBytes (subNodes n x y)) in
+      let m = sub-appends b n x y (n + 6) l (as-sub (f .0)) in
+      let s = alone rel (n + 6) out (omega arith) (f .1) l (n + 6 + 1) (omega (arith, a .2 .few)) (omega arith) in
+      rw (← w .1, ← w .2, ← w .3) (record { appended = m; written-is = s .0 ∙ ap (Atom rel) (m .result); accepted = s .1 })

@@ -2,16 +2,15 @@
 use Prim.Native.Nat.{ℕ}
 use mathlib.Core.Path.{_≡_, refl}
 use mathlib.Core.List.{List, [], _∷_}
-use lib.ListN.{length, getD, set, replicate}
+use lib.ListN.{length, set, replicate}
 use Rattle.number.specs.Notation.{bits}
 use Rattle.tree.specs.Tree.{Tree}
-use Rattle.tree.specs.Canonical.{nodesBytes}
+use Rattle.tree.specs.Encoding.{nodesBytes}
 use Rattle.tree.specs.declared.Node.{Node}
-use Rattle.constraint.specs.Constraint.{Constraint, end, _⨾_, numVars}
-use Rattle.constraint.specs.Records.{finished, none, recordsRefusal}
+use Rattle.constraint.specs.Constraint.{Constraint, Atom, Not, Or, ForAll, end, _⨾_, numVars}
+use Rattle.constraint.specs.Records.{formulaAt, constraintAt, recordsRefusal}
 use Rattle.constraint.specs.Starts.{startAt}
-use Rattle.constraint.specs.Fingerprint.{fingerprint}
-use Rattle.constraint.specs.Comparison.{recordsBytes}
+use Rattle.constraint.specs.Encoding.{recordsBytes, recordsOf}
 use Rattle.constraint.specs.Computing.{computing}
 use Rattle.constraint.specs.declared.Relation.{Relation}
 use Rattle.constraint.specs.declared.Record.{Record}
@@ -20,7 +19,7 @@ abbrev nodes : List ℕ
 nodes = nodesBytes (Node.Var 3 ∷ [])
 
 abbrev refusal : List Record → ℕ
-refusal rs = recordsRefusal nodes 1 (recordsBytes rs) (length rs)
+refusal rs = recordsRefusal 1 (recordsBytes rs) (length rs)
 
 abbrev atom : Record
 atom = Record.Atom Relation.LtZero 0
@@ -35,12 +34,12 @@ hi = 0x3FF0000000000000
 abbrev forall : Record
 forall = Record.ForAll 5 (bits lo) (bits hi)
 
--- Or of an atom and of Not of ForAll of an atom: the records, the starts, the constraint, its variables and its fingerprint
+-- Or of an atom and of Not of ForAll of an atom: the records, the starts, the constraint, its variables
 abbrev some : List Record
 some = atom ∷ atom ∷ forall ∷ Record.Not ∷ Record.Or 2 ∷ []
 
 abbrev constraint : Constraint
-constraint = Constraint.Or (Constraint.Atom Relation.LtZero (Tree.Var 3) ⨾ Constraint.Not (Constraint.ForAll 5 (bits lo) (bits hi) (Constraint.Atom Relation.LtZero (Tree.Var 3))) ⨾ end)
+constraint = Or (Atom Relation.LtZero (Tree.Var 3) ⨾ Not (ForAll 5 (bits lo) (bits hi) (Atom Relation.LtZero (Tree.Var 3))) ⨾ end)
 
 some-accepted : refusal some ≡ 0
 unfolding computing
@@ -50,7 +49,7 @@ some-starts : startAt (recordsBytes some) 3 ≡ 1
 unfolding computing
 some-starts = refl
 
-some-constraint : getD (finished nodes (recordsBytes some) 5) 0 none ≡ constraint
+some-constraint : constraintAt nodes (recordsBytes some) 4 ≡ constraint
 unfolding computing
 some-constraint = refl
 
@@ -58,9 +57,10 @@ some-vars : numVars constraint ≡ 6
 unfolding computing
 some-vars = refl
 
-some-print : fingerprint constraint ≡ 1159119909
+-- its formula's records are the same again
+some-again : recordsOf (formulaAt (recordsBytes some) 4) ≡ some
 unfolding computing
-some-print = refl
+some-again = refl
 
 -- an empty And stands alone
 empty : refusal (Record.And 0 ∷ []) ≡ 0
@@ -72,7 +72,7 @@ no-node : refusal (Record.Atom Relation.EqZero 1 ∷ []) ≡ 5
 unfolding computing
 no-node = refl
 
-unused-byte : recordsRefusal nodes 1 (set (recordsBytes (atom ∷ [])) 23 1) 1 ≡ 5
+unused-byte : recordsRefusal 1 (set (recordsBytes (atom ∷ [])) 23 1) 1 ≡ 5
 unfolding computing
 unused-byte = refl
 

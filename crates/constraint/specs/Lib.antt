@@ -3,12 +3,16 @@ pub mod Records
 pub mod Starts
 pub mod Views
 pub mod StartLaws
-pub mod Fingerprint
+pub mod FormulaLaws
+pub mod Encoding
 pub mod Comparison
 pub mod Writing
 pub mod RecordLaws
 pub mod VarLaws
+pub mod Fitting
+pub mod Passing
 pub mod Code
+pub mod PutLaws
 pub mod ComparisonLaws
 pub mod Computing
 pub mod Examples

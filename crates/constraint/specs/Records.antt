@@ -6,11 +6,11 @@ use lib.Dec.{leb, ltb, eqb}
 use lib.Ieee.{binary64}
 use lib.ListN.{length, getD, take, drop}
 use Rattle.number.specs.Notation.{if_then_else_}
-use Rattle.number.specs.Halving.{sound}
-use Rattle.tree.specs.Bytes.{u32At, u64At, f64At}
-use Rattle.tree.specs.Refusal.{_or-else_, _unless_, first}
+use Rattle.number.specs.Sound.{sound}
+use Rattle.record.specs.Bytes.{u32At, u64At, f64At}
+use Rattle.record.specs.Refusal.{_or-else_, _unless_, first}
 use Rattle.tree.specs.Nodes.{treeAt}
-use Rattle.constraint.specs.Constraint.{Constraint, Constraints, end, _⨾_, levels, quantifiers}
+use Rattle.constraint.specs.Constraint.{Formula, Formulas, Constraint, Atom, Not, And, Or, ForAll, Exists, end, _⨾_, mapFormula, levels, quantifiers}
 use Rattle.constraint.specs.declared.Relation.{Relation}
 use Rattle.constraint.specs.declared.Record.{Record}
 
@@ -70,47 +70,51 @@ takes (Record.Or m) = m
 takes (Record.ForAll v lo hi) = 1
 takes (Record.Exists v lo hi) = 1
 
-unfoldable pub gather : List Constraint → Constraints
+unfoldable pub gather : {A : Type 0} → List (Formula A) → Formulas A
 gather [] = end
 gather (c ∷ cs) = c ⨾ gather cs
 
 -- where there is nothing to take: an accepted record never meets it
-abbrev pub none : Constraint
-none = Constraint.And end
+abbrev pub none : {A : Type 0} → Formula A
+none = And end
 
--- the constraint that it finishes, over the nodes' bytes, from those that it takes, oldest first
-unfoldable pub finish : List ℕ → Record → List Constraint → Constraint
-finish nodes (Record.Atom rel i) cs = Constraint.Atom rel (treeAt nodes i)
-finish nodes Record.Not cs = Constraint.Not (getD cs 0 none)
-finish nodes (Record.And m) cs = Constraint.And (gather cs)
-finish nodes (Record.Or m) cs = Constraint.Or (gather cs)
-finish nodes (Record.ForAll v lo hi) cs = Constraint.ForAll v lo hi (getD cs 0 none)
-finish nodes (Record.Exists v lo hi) cs = Constraint.Exists v lo hi (getD cs 0 none)
+-- the formula over node numbers that it finishes, from those that it takes, oldest first
+unfoldable pub finish : Record → List (Formula ℕ) → Formula ℕ
+finish (Record.Atom rel i) cs = Atom rel i
+finish Record.Not cs = Not (getD cs 0 none)
+finish (Record.And m) cs = And (gather cs)
+finish (Record.Or m) cs = Or (gather cs)
+finish (Record.ForAll v lo hi) cs = ForAll v lo hi (getD cs 0 none)
+finish (Record.Exists v lo hi) cs = Exists v lo hi (getD cs 0 none)
 
 -- what the first k records leave finished, oldest first
-unfoldable pub finished : List ℕ → List ℕ → ℕ → List Constraint
-finished nodes b zero = []
-finished nodes b (suc k) =
-    let before = finished nodes b k in
+unfoldable pub finished : List ℕ → ℕ → List (Formula ℕ)
+finished b zero = []
+finished b (suc k) =
+    let before = finished b k in
     let base = length before - takes (recordAt b k) in
-    take base before ++ finish nodes (recordAt b k) (drop base before) ∷ []
+    take base before ++ finish (recordAt b k) (drop base before) ∷ []
 
 -- what record k finishes
-unfoldable pub constraintAt : List ℕ → List ℕ → ℕ → Constraint
-constraintAt nodes b k =
-    let before = finished nodes b k in
-    finish nodes (recordAt b k) (drop (length before - takes (recordAt b k)) before)
+unfoldable pub formulaAt : List ℕ → ℕ → Formula ℕ
+formulaAt b k =
+    let before = finished b k in
+    finish (recordAt b k) (drop (length before - takes (recordAt b k)) before)
 
--- 5 constraint record, or too few finished constraints; 6 unsound range; 7 depth, quantifiers
-unfoldable pub recordRefusal : List ℕ → ℕ → List ℕ → ℕ → ℕ
-recordRefusal nodes n b k =
-    let new = constraintAt nodes b k in
-    5 unless isRecord n b k && leb (takes (recordAt b k)) (length (finished nodes b k))
+-- and the constraint that it is over the nodes' bytes: each number's tree in its place
+unfoldable pub constraintAt : List ℕ → List ℕ → ℕ → Constraint
+constraintAt nodes b k = mapFormula (treeAt nodes) (formulaAt b k)
+
+-- over n nodes: 5 constraint record, or too few finished constraints; 6 unsound range; 7 depth, quantifiers
+unfoldable pub recordRefusal : ℕ → List ℕ → ℕ → ℕ
+recordRefusal n b k =
+    let new = formulaAt b k in
+    5 unless isRecord n b k && leb (takes (recordAt b k)) (length (finished b k))
     or-else 6 unless isRanged (recordAt b k)
     or-else 7 unless leb (levels new) 16 && leb (quantifiers new) 4
 
 -- each of m records, then 7 unless just one is left
-unfoldable pub recordsRefusal : List ℕ → ℕ → List ℕ → ℕ → ℕ
-recordsRefusal nodes n b m =
-    first (recordRefusal nodes n b) m
-    or-else 7 unless eqb (length (finished nodes b m)) 1
+unfoldable pub recordsRefusal : ℕ → List ℕ → ℕ → ℕ
+recordsRefusal n b m =
+    first (recordRefusal n b) m
+    or-else 7 unless eqb (length (finished b m)) 1

@@ -1,4 +1,4 @@
--- How a constraint hangs together with those that it takes, by their record numbers. Assumes nothing.
+-- How a formula hangs together with those that it takes, by their record numbers. Assumes nothing.
 use Prim.Native.Nat.{ℕ, zero, suc, _+_, _-_, _≤_, _<_}
 use mathlib.Core.Path.{_≡_, refl, sym, ap, _∙_, subst}
 use mathlib.Core.Logic.{⊎-elim}
@@ -8,9 +8,9 @@ use native.Mathlib.Numerals.{add-one}
 use native.Mathlib.Omega.{arith}
 use lib.ListN.{length, getD, take, drop, length-append, length-take, length-drop, List·getD-append, drop-of-length-le}
 use lib.Seq.{getD-at, getD-take, getD-drop, take-take, take-append-le, take-at, take-all, drop-append-le, length-take-le}
-use Rattle.constraint.specs.Constraint.{Constraint}
-use Rattle.constraint.specs.Records.{recordAt, takes, finish, finished, constraintAt}
-use Rattle.constraint.specs.Starts.{begun, startAt, upTo}
+use Rattle.constraint.specs.Constraint.{Formula}
+use Rattle.constraint.specs.Records.{recordAt, takes, finish, finished, formulaAt}
+use Rattle.constraint.specs.Starts.{begun, startAt, formulasTo}
 
 -- ---- a start is at its own record or before
 abbrev Under : ℕ → List ℕ → Type 0
@@ -44,23 +44,22 @@ module _ (b : List ℕ) where
   unfolding startAt
   start-below k = under-drop (begun b k) (length (begun b k) - takes (recordAt b k)) k (below k)
 
-module _ (nodes b : List ℕ) where
-  -- of each finished constraint one start
-  same-height : (k : ℕ) → length (begun b k) ≡ length (finished nodes b k)
+  -- of each finished formula one start
+  same-height : (k : ℕ) → length (begun b k) ≡ length (finished b k)
   unfolding begun finished
   same-height zero = refl
   same-height (suc k) =
       let m = takes (recordAt b k) in
-      let f = finished nodes b k in
+      let f = finished b k in
       let g = begun b k in
       length-append (take (length g - m) g) _
       ∙ omega (arith, same-height k, length-take (length g - m) g, length-take (length f - m) f)
       ∙ sym (length-append (take (length f - m) f) _)
 
   base : ℕ → ℕ
-  base k = length (finished nodes b k) - takes (recordAt b k)
+  base k = length (finished b k) - takes (recordAt b k)
 
-  base-le : (k : ℕ) → base k ≤ length (finished nodes b k)
+  base-le : (k : ℕ) → base k ≤ length (finished b k)
   unfolding base
   base-le k = omega arith
 
@@ -76,29 +75,29 @@ module _ (nodes b : List ℕ) where
   unfolding begun startAt
   begun-is k = ap (λ (n : ℕ). take n (begun b k) ++ startAt b k ∷ []) (base-is k)
 
-  finished-is : (k : ℕ) → finished nodes b (suc k) ≡ take (base k) (finished nodes b k) ++ constraintAt nodes b k ∷ []
-  unfolding finished constraintAt base
+  finished-is : (k : ℕ) → finished b (suc k) ≡ take (base k) (finished b k) ++ formulaAt b k ∷ []
+  unfolding finished formulaAt base
   finished-is k = refl
 
-  height-is : (k : ℕ) → length (finished nodes b (suc k)) ≡ base k + 1
+  height-is : (k : ℕ) → length (finished b (suc k)) ≡ base k + 1
   unfolding base
-  height-is k = ap length (finished-is k) ∙ length-append (take (base k) (finished nodes b k)) _ ∙ omega (arith, length-take (base k) (finished nodes b k))
+  height-is k = ap length (finished-is k) ∙ length-append (take (base k) (finished b k)) _ ∙ omega (arith, length-take (base k) (finished b k))
 
   Back : ℕ → Type 0
-  Back k = (j : ℕ) → j < length (finished nodes b k) → finished nodes b (getD (begun b k) j 0) ≡ take j (finished nodes b k)
+  Back k = (j : ℕ) → j < length (finished b k) → finished b (getD (begun b k) j 0) ≡ take j (finished b k)
 
-  start-from : (k : ℕ) → Back k → finished nodes b (startAt b k) ≡ take (base k) (finished nodes b k)
+  start-from : (k : ℕ) → Back k → finished b (startAt b k) ≡ take (base k) (finished b k)
   unfolding Back base
   start-from k back =
-      let f = finished nodes b k in
+      let f = finished b k in
       let g = begun b k in
       let i : base k ≤ length f = omega arith in
       ⊎-elim
       (λ e.
-      ap (finished nodes b) (start-is k ∙ ap (λ (l : List ℕ). getD l 0 k) (drop-of-length-le g {i = base k} (omega (arith, same-height k))))
+      ap (finished b) (start-is k ∙ ap (λ (l : List ℕ). getD l 0 k) (drop-of-length-le g {i = base k} (omega (arith, same-height k))))
       ∙ sym (take-all (base k) f (omega arith)))
       (λ l.
-      ap (finished nodes b) (start-is k ∙ getD-drop (base k) g 0 k ∙ ap (λ (n : ℕ). getD g n k) (omega arith) ∙ any g (base k) k 0 (omega (arith, same-height k)))
+      ap (finished b) (start-is k ∙ getD-drop (base k) g 0 k ∙ ap (λ (n : ℕ). getD g n k) (omega arith) ∙ any g (base k) k 0 (omega (arith, same-height k)))
       ∙ back (base k) l)
       (eq-or-lt-of-le i)
     where
@@ -111,52 +110,52 @@ module _ (nodes b : List ℕ) where
   unfolding Back finished
   back zero j h = absurd (not-suc-le-zero h)
   back (suc k) j h =
-      let f = finished nodes b k in
+      let f = finished b k in
       let g = begun b k in
       let lf : length (take (base k) f) ≡ base k = length-take-le (base k) f (base-le k) in
       let lg : length (take (base k) g) ≡ base k = length-take-le (base k) g (omega (arith, same-height k, base-le k)) in
       let hj : j < base k + 1 = subst (λ (n : ℕ). j < n) (height-is k) h in
       ⊎-elim
       (λ e.
-      ap (λ (l : List ℕ). finished nodes b (getD l j 0)) (begun-is k)
-      ∙ ap (finished nodes b) (getD-at (take (base k) g) (startAt b k) [] 0 j (lg ∙ sym e))
+      ap (λ (l : List ℕ). finished b (getD l j 0)) (begun-is k)
+      ∙ ap (finished b) (getD-at (take (base k) g) (startAt b k) [] 0 j (lg ∙ sym e))
       ∙ start-from k (back k)
-      ∙ sym (ap (take j) (finished-is k) ∙ take-at (take (base k) f) (constraintAt nodes b k ∷ []) j (lf ∙ sym e)))
+      ∙ sym (ap (take j) (finished-is k) ∙ take-at (take (base k) f) (formulaAt b k ∷ []) j (lf ∙ sym e)))
       (λ l.
-      ap (λ (l : List ℕ). finished nodes b (getD l j 0)) (begun-is k)
-      ∙ ap (finished nodes b) (List·getD-append (take (base k) g) _ 0 j (omega arith) ∙ getD-take (base k) g j 0 l)
+      ap (λ (l : List ℕ). finished b (getD l j 0)) (begun-is k)
+      ∙ ap (finished b) (List·getD-append (take (base k) g) _ 0 j (omega arith) ∙ getD-take (base k) g j 0 l)
       ∙ back k j (omega (arith, base-le k))
       ∙ sym (ap (take j) (finished-is k) ∙ take-append-le j (take (base k) f) _ (omega arith) ∙ take-take j (base k) f (omega arith)))
       (eq-or-lt-of-le (le-of-suc-le-suc (subst (λ (n : ℕ). j < n) (add-one (base k)) hj)))
 
-  -- what is finished before record k + 1 is what was finished where constraint k starts, and then constraint k
-  pub chain : (k : ℕ) → finished nodes b (suc k) ≡ finished nodes b (startAt b k) ++ constraintAt nodes b k ∷ []
-  chain k = finished-is k ∙ ap (λ (l : List Constraint). l ++ constraintAt nodes b k ∷ []) (sym (start-from k (back k)))
+  -- what is finished before record k + 1 is what was finished where formula k starts, and then formula k
+  pub chain : (k : ℕ) → finished b (suc k) ≡ finished b (startAt b k) ++ formulaAt b k ∷ []
+  chain k = finished-is k ∙ ap (λ (l : List (Formula ℕ)). l ++ formulaAt b k ∷ []) (sym (start-from k (back k)))
 
   -- so those that a record takes are found by the numbers where they start
-  taken : (m k : ℕ) → m ≤ length (finished nodes b k) → drop (length (finished nodes b k) - m) (finished nodes b k) ≡ upTo nodes b m k
-  unfolding upTo finished
-  taken zero k h = drop-of-length-le (finished nodes b k) {i = length (finished nodes b k) - 0} (omega arith)
+  taken : (m k : ℕ) → m ≤ length (finished b k) → drop (length (finished b k) - m) (finished b k) ≡ formulasTo b m k
+  unfolding formulasTo finished
+  taken zero k h = drop-of-length-le (finished b k) {i = length (finished b k) - 0} (omega arith)
   taken (suc m) zero h = absurd (not-suc-le-zero h)
   taken (suc m) (suc k) h =
-      let F = finished nodes b (startAt b k) in
-      let n : length (finished nodes b (suc k)) ≡ length F + 1 = ap length (chain k) ∙ length-append F (constraintAt nodes b k ∷ []) in
-      let i : length (finished nodes b (suc k)) - suc m ≡ length F - m = omega (arith, n) in
-      ap (λ (i : ℕ). drop i (finished nodes b (suc k))) i
+      let F = finished b (startAt b k) in
+      let n : length (finished b (suc k)) ≡ length F + 1 = ap length (chain k) ∙ length-append F (formulaAt b k ∷ []) in
+      let i : length (finished b (suc k)) - suc m ≡ length F - m = omega (arith, n) in
+      ap (λ (i : ℕ). drop i (finished b (suc k))) i
       ∙ ap (drop (length F - m)) (chain k)
-      ∙ drop-append-le (length F - m) F (constraintAt nodes b k ∷ []) (omega arith)
-      ∙ ap (λ (l : List Constraint). l ++ constraintAt nodes b k ∷ []) (taken m (startAt b k) (omega (arith, n)))
+      ∙ drop-append-le (length F - m) F (formulaAt b k ∷ []) (omega arith)
+      ∙ ap (λ (l : List (Formula ℕ)). l ++ formulaAt b k ∷ []) (taken m (startAt b k) (omega (arith, n)))
 
-  pub length-up-to : (m k : ℕ) → m ≤ length (finished nodes b k) → length (upTo nodes b m k) ≡ m
-  length-up-to m k h = ap length (sym (taken m k h)) ∙ length-drop (length (finished nodes b k) - m) (finished nodes b k) ∙ omega arith
+  pub length-formulas : (m k : ℕ) → m ≤ length (finished b k) → length (formulasTo b m k) ≡ m
+  length-formulas m k h = ap length (sym (taken m k h)) ∙ length-drop (length (finished b k) - m) (finished b k) ∙ omega arith
 
   -- each record leaves at most one more
-  pub height-below : (k : ℕ) → length (finished nodes b k) ≤ k
+  pub height-below : (k : ℕ) → length (finished b k) ≤ k
   unfolding finished
   height-below zero = omega arith
   height-below (suc k) = omega (arith, height-is k, base-le k, height-below k)
 
-  -- constraint k, by what its record says and by the constraints that it takes
-  pub constraint-of : (k : ℕ) → takes (recordAt b k) ≤ length (finished nodes b k) → constraintAt nodes b k ≡ finish nodes (recordAt b k) (upTo nodes b (takes (recordAt b k)) k)
-  unfolding constraintAt
-  constraint-of k h = ap (finish nodes (recordAt b k)) (taken (takes (recordAt b k)) k h)
+  -- formula k, by what its record says and by those that it takes
+  pub formula-of : (k : ℕ) → takes (recordAt b k) ≤ length (finished b k) → formulaAt b k ≡ finish (recordAt b k) (formulasTo b (takes (recordAt b k)) k)
+  unfolding formulaAt
+  formula-of k h = ap (finish (recordAt b k)) (taken (takes (recordAt b k)) k h)

@@ -1,14 +1,17 @@
--- The number of variables of an accepted constraint is at most 16. Assumes nothing.
+-- The number of variables, by what a record says and by what it takes; that of an accepted constraint is at most 16. Assumes nothing.
 use Prim.Native.Nat.{ℕ, zero, suc, _+_, _-_, max, _≤_, _<_}
-use mathlib.Core.Path.{_≡_, refl}
-use mathlib.Core.List.{List, [], _∷_, _++_}
+use mathlib.Core.Path.{_≡_, refl, sym, ap, _∙_}
+use mathlib.Core.List.{List, [], _∷_, _++_, map}
 use native.Mathlib.Omega.{arith}
-use lib.ListN.{getD}
+use lib.ListN.{length, getD}
+use Rattle.tree.specs.Nodes.{treeAt}
 use Rattle.tree.specs.NodeLaws.{vars-small}
-use Rattle.constraint.specs.Constraint.{Constraint, numVars, numVarsAll}
-use Rattle.constraint.specs.Records.{recordAt, gather, constraintAt}
-use Rattle.constraint.specs.Starts.{upTo, Ready, Taken}
-use Rattle.constraint.specs.RecordLaws.{inside, at-atom, atom-node, at-not, at-and, and-taken, at-or, or-taken, at-forall, forall-range, at-exists, exists-range, none-taken, some, start-falls, before-last, last, up-to}
+use Rattle.constraint.specs.Constraint.{Formula, Constraint, mapFormula, numVars, numVarsAll}
+use Rattle.constraint.specs.Records.{recordAt, takes, gather, none, finish, constraintAt}
+use Rattle.constraint.specs.Starts.{formulasTo, upTo, Ready, Taken}
+use Rattle.constraint.specs.Code.{ownVars, Named}
+use Rattle.constraint.specs.FormulaLaws.{gather-map}
+use Rattle.constraint.specs.RecordLaws.{formula-here, writable-here, atom-node, taken-here, few-taken, none-taken, some, start-falls, before-last, last, up-to}
 use Rattle.constraint.specs.declared.Record.{Record}
 
 pub num-vars-snoc : (cs : List Constraint) (c : Constraint) → numVarsAll (gather (cs ++ c ∷ [])) ≡ max (numVarsAll (gather cs)) (numVars c)
@@ -16,6 +19,51 @@ unfolding gather numVarsAll
 num-vars-snoc [] c = omega arith
 num-vars-snoc (x ∷ cs) c = omega (arith, num-vars-snoc cs c)
 
+-- ---- of what a record finishes: the most of those that it takes, or its own
+module _ (nodes : List ℕ) where
+  abbrev constraints : List (Formula ℕ) → List Constraint
+  constraints cs = map (mapFormula (treeAt nodes)) cs
+
+  one-taken : (cs : List (Formula ℕ)) → length cs ≡ 1 → numVars (mapFormula (treeAt nodes) (getD cs 0 none)) ≡ numVarsAll (gather (constraints cs))
+  unfolding gather numVars
+  one-taken [] l = absurd (omega arith)
+  one-taken (c ∷ []) l = omega arith
+  one-taken (c ∷ d ∷ cs) l = absurd (omega arith)
+
+  of-finished : (x : Record) (cs : List (Formula ℕ)) → length cs ≡ takes x → numVars (mapFormula (treeAt nodes) (finish x cs)) ≡ max (numVarsAll (gather (constraints cs))) (ownVars nodes x)
+  unfolding finish mapFormula numVars
+  of-finished (Record.Atom rel i) [] l = unfold gather in omega arith
+  of-finished (Record.Atom rel i) (c ∷ cs) l = absurd (omega arith)
+  of-finished Record.Not cs l = omega (arith, one-taken cs l)
+  of-finished (Record.And m) cs l = ap numVarsAll (gather-map (treeAt nodes) cs) ∙ omega arith
+  of-finished (Record.Or m) cs l = ap numVarsAll (gather-map (treeAt nodes) cs) ∙ omega arith
+  of-finished (Record.ForAll v lo hi) cs l = omega (arith, one-taken cs l)
+  of-finished (Record.Exists v lo hi) cs l = omega (arith, one-taken cs l)
+
+module _ (nodes b : List ℕ) (k : ℕ) (starts : List ℕ) (p : Ready nodes b (k + 1) starts) where
+  pub vars-of : (x : Record) → recordAt b k ≡ x → (m : ℕ) → m ≡ takes x → numVars (constraintAt nodes b k) ≡ max (numVarsAll (gather (upTo nodes b m k))) (ownVars nodes x)
+  unfolding constraintAt upTo
+  vars-of x e m t =
+      ap (λ (c : Formula ℕ). numVars (mapFormula (treeAt nodes) c)) (formula-here nodes b k starts p x e ∙ ap (λ (m : ℕ). finish x (formulasTo b m k)) (sym t))
+      ∙ of-finished nodes x (formulasTo b m k) (few-taken nodes b m k starts (taken-here nodes b k starts p x e m t) .1 ∙ t)
+
+  pub named : (x : Record) → recordAt b k ≡ x → Named nodes x
+  named (Record.Atom rel i) e = atom-node nodes b k starts p rel i e
+  named Record.Not e = tt
+  named (Record.And m) e = tt
+  named (Record.Or m) e = tt
+  named (Record.ForAll v lo hi) e = writable-here nodes b k starts p (Record.ForAll v lo hi) e .0
+  named (Record.Exists v lo hi) e = writable-here nodes b k starts p (Record.Exists v lo hi) e .0
+
+own-few : (nodes : List ℕ) (x : Record) → Named nodes x → ownVars nodes x ≤ 16
+own-few nodes (Record.Atom rel i) h = vars-small nodes (i + 1) h i (omega arith)
+own-few nodes Record.Not h = omega arith
+own-few nodes (Record.And m) h = omega arith
+own-few nodes (Record.Or m) h = omega arith
+own-few nodes (Record.ForAll v lo hi) h = h
+own-few nodes (Record.Exists v lo hi) h = h
+
+-- ---- at most 16
 module _ (nodes b starts : List ℕ) where
   Few : ℕ → Type 0
   Few f =
@@ -23,22 +71,14 @@ module _ (nodes b starts : List ℕ) where
       × ((m n : ℕ) → n ≤ f → Taken nodes b m n starts → numVarsAll (gather (upTo nodes b m n)) ≤ 16)
 
   few-one : (f k : ℕ) → Few f → k ≤ f → Ready nodes b (k + 1) starts → numVars (constraintAt nodes b k) ≤ 16
-  unfolding Few numVars
-  few-one f k h l p = of (recordAt b k) refl
-    where
-      of : (x : Record) → recordAt b k ≡ x → numVars (constraintAt nodes b k) ≤ 16
-      of (Record.Atom rel i) e = rw (at-atom nodes b k starts p rel i e) (vars-small nodes (i + 1) (atom-node nodes b k starts p rel i e) i (omega arith))
-      of Record.Not e =
-          let w = inside nodes b k starts p Record.Not e refl in
-          rw (at-not nodes b k starts p e) (h .0 (k - 1) (omega arith) (w .1))
-      of (Record.And m) e = rw (at-and nodes b k starts p m e) (h .1 m k l (and-taken nodes b k starts p m e))
-      of (Record.Or m) e = rw (at-or nodes b k starts p m e) (h .1 m k l (or-taken nodes b k starts p m e))
-      of (Record.ForAll v lo hi) e =
-          let w = inside nodes b k starts p (Record.ForAll v lo hi) e refl in
-          rw (at-forall nodes b k starts p v lo hi e) (omega (arith, h .0 (k - 1) (omega arith) (w .1), forall-range nodes b k starts p v lo hi e .0))
-      of (Record.Exists v lo hi) e =
-          let w = inside nodes b k starts p (Record.Exists v lo hi) e refl in
-          rw (at-exists nodes b k starts p v lo hi e) (omega (arith, h .0 (k - 1) (omega arith) (w .1), exists-range nodes b k starts p v lo hi e .0))
+  unfolding Few
+  few-one f k h l p =
+      omega (
+        arith,
+        vars-of nodes b k starts p (recordAt b k) refl _ refl,
+        h .1 (takes (recordAt b k)) k l (taken-here nodes b k starts p (recordAt b k) refl _ refl),
+        own-few nodes (recordAt b k) (named nodes b k starts p (recordAt b k) refl),
+      )
 
   few-all : (f m n : ℕ) → Few f → n ≤ suc f → Taken nodes b m n starts → numVarsAll (gather (upTo nodes b m n)) ≤ 16
   unfolding Few

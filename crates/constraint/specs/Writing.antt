@@ -11,12 +11,11 @@ use lib.Ieee.Bits.{ofBits-toBits, toBits-lt}
 use lib.ListN.{length, getD, length-append, List·getD-append}
 use lib.Seq.{getD-append-add}
 use Rattle.number.specs.Notation.{if_then_else_}
-use Rattle.tree.specs.Bytes.{u32At, u64At, f64At, u32Bytes, u64Bytes}
-use Rattle.tree.specs.Frame.{u32-same}
-use Rattle.tree.specs.Writing.{u32-read}
+use Rattle.record.specs.Bytes.{u32At, u64At, f64At, u32Bytes, u64Bytes}
+use Rattle.record.specs.ByteLaws.{u32-same, u32-read}
 use Rattle.constraint.specs.Records.{relationOf, recordAt, isRecord}
-use Rattle.constraint.specs.Fingerprint.{kindOf}
-use Rattle.constraint.specs.Comparison.{recordBytes, recordsBytes}
+use Rattle.constraint.specs.Code.{Writable}
+use Rattle.constraint.specs.Encoding.{kindOf, recordBytes, recordsBytes}
 use Rattle.constraint.specs.declared.Relation.{Relation}
 use Rattle.constraint.specs.declared.Record.{Record}
 
@@ -108,15 +107,6 @@ kind-back Relation.LeZero = refl
 kind-back Relation.NeZero = refl
 
 -- ---- a record over at most 1024 nodes
--- what it says has room in its bytes
-abbrev pub Writable : ℕ → Record → Type 0
-Writable n (Record.Atom rel i) = i < n
-Writable n Record.Not = Unit {0}
-Writable n (Record.And m) = m < 1024
-Writable n (Record.Or m) = m < 1024
-Writable n (Record.ForAll v lo hi) = (v < 16) × T (fits binary64 lo) × T (fits binary64 hi)
-Writable n (Record.Exists v lo hi) = (v < 16) × T (fits binary64 lo) × T (fits binary64 hi)
-
 bits-small : (x : Float) → T (fits binary64 x) → toBits binary64 x < 2 ^ 64
 bits-small x h = toBits-lt binary64 x h
 

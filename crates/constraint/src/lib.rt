@@ -1,18 +1,20 @@
 // Constraints (constraint.rs) as records in postorder (document 01, "The file"): their tests, the number of variables, and the comparisons.
 use tree::Appended;
 ghost use mathlib.Core.Path.{_≡_};
-ghost use Prim.Native.Nat.{ℕ, _+_, _*_, _≤_, _<_};
-ghost use mathlib.Core.List.{List};
-ghost use lib.ListN.{length, getD, take, drop};
+ghost use Prim.Native.Nat.{_+_, _*_, _≤_, _<_};
+ghost use mathlib.Core.List.{_++_, [], _∷_};
+ghost use lib.ListN.{length, getD};
 ghost use lib.Seq.{sets};
-ghost use Rattle.tree.specs.Refusal.{passing, filled};
-ghost use Rattle.constraint.specs.Records.{relationOf, recordAt, isRecord, isRanged, takes, recordRefusal, recordsRefusal};
-ghost use Rattle.constraint.specs.Starts.{startAt, Ready, Taken};
+ghost use Rattle.record.specs.Bytes.{u32Bytes, u64Bytes};
+ghost use Rattle.record.specs.Leaving.{_leaving_};
+ghost use Rattle.constraint.specs.Records.{relationOf, recordAt, isRecord, isRanged, takes, recordsRefusal};
+ghost use Rattle.constraint.specs.Starts.{startsOf, Ready, Taken};
 ghost use Rattle.constraint.specs.Constraint.{numVars, numVarsAll};
-ghost use Rattle.constraint.specs.Fingerprint.{kindOf, mixRange, fingerprints, fingerprint as printOf};
-ghost use Rattle.constraint.specs.Comparison.{recordBytes, compared, _leaving_and_};
-ghost use Rattle.constraint.specs.Code.{greatest, binds};
+ghost use Rattle.constraint.specs.Encoding.{kindOf};
+ghost use Rattle.constraint.specs.Comparison.{compared};
+ghost use Rattle.constraint.specs.Code.{part, greatest, binds, ownVars, Named, Writable, Puts};
 ghost use Rattle.constraint.specs.Views.{those, the};
+ghost use Rattle.record.specs.Views.{old, final};
 
 // How an atom compares its tree's value with zero.
 pub enum Relation {
@@ -50,11 +52,11 @@ fn relation_of(kind: u32) -> Relation
 // Record k, read with no test.
 pub fn record_in(constraints: &[u8], k: usize) -> Record
     requires { ⌜ 24 * k + 24 ≤ length (now constraints) ⌝ }
-    ensures { λ r. ⌜ r ≡ recordAt (now (constraints .entry)) k ⌝ }
+    ensures { λ r. ⌜ r ≡ recordAt (old constraints) k ⌝ }
 {
     let at = 24 * k;
-    let kind = tree::read_u32(constraints, at);
-    let arg = tree::read_u32(constraints, at + 4) as usize;
+    let kind = record::read_u32(constraints, at);
+    let arg = record::read_u32(constraints, at + 4) as usize;
     if kind < 6 {
         return Record::Atom(relation_of(kind), arg);
     }
@@ -64,13 +66,13 @@ pub fn record_in(constraints: &[u8], k: usize) -> Record
         8 => Record::Or(arg),
         9 => Record::ForAll(
             arg,
-            tree::read_f64(constraints, at + 8),
-            tree::read_f64(constraints, at + 16),
+            record::read_f64(constraints, at + 8),
+            record::read_f64(constraints, at + 16),
         ),
         _ => Record::Exists(
             arg,
-            tree::read_f64(constraints, at + 8),
-            tree::read_f64(constraints, at + 16),
+            record::read_f64(constraints, at + 8),
+            record::read_f64(constraints, at + 16),
         ),
     }
 }
@@ -78,13 +80,13 @@ pub fn record_in(constraints: &[u8], k: usize) -> Record
 // Whether record k is a constraint's, over count nodes.
 pub fn is_record(count: usize, constraints: &[u8], k: usize) -> bool
     requires { ⌜ 24 * k + 24 ≤ length (now constraints) ⌝ }
-    ensures { λ r. ⌜ r ≡ isRecord count (now (constraints .entry)) k ⌝ }
+    ensures { λ r. ⌜ r ≡ isRecord count (old constraints) k ⌝ }
 {
     let at = 24 * k;
-    let kind = tree::read_u32(constraints, at);
-    let arg = tree::read_u32(constraints, at + 4) as usize;
-    let lo = tree::read_u64(constraints, at + 8);
-    let hi = tree::read_u64(constraints, at + 16);
+    let kind = record::read_u32(constraints, at);
+    let arg = record::read_u32(constraints, at + 4) as usize;
+    let lo = record::read_u64(constraints, at + 8);
+    let hi = record::read_u64(constraints, at + 16);
     let blank = (lo == 0) & (hi == 0);
     if kind < 6 {
         return (arg < count) & blank;
@@ -113,7 +115,7 @@ fn is_ranged(r: Record) -> bool
 }
 
 // How many finished constraints it takes.
-fn taken_by(r: Record) -> usize
+pub fn taken_by(r: Record) -> usize
     ensures { λ x. ⌜ x ≡ takes r ⌝ }
 {
     match r {
@@ -142,12 +144,12 @@ fn quantifier_of(r: Record) -> usize
 // The greatest of the elements from..to, and 0 of none.
 fn greatest_of(a: &[u8; 256], from: usize, to: usize) -> usize
     requires { ⌜ (from ≤ to) × (to ≤ 256) × (length (now a) ≡ 256) ⌝ }
-    ensures { λ r. ⌜ (r ≡ greatest (drop from (take to (now (a .entry))))) × (r < 256) ⌝ }
+    ensures { λ r. ⌜ (r ≡ greatest (part from to (old a))) × (r < 256) ⌝ }
 {
     let mut r: usize = 0;
     let mut j = from;
     while j < to {
-        r = tree::larger(r, tree::wide(a[j]) as usize);
+        r = tree::larger(r, record::wide(a[j]) as usize);
         j += 1;
     }
     r
@@ -161,14 +163,14 @@ struct Nesting {
 
 // Of what record r finishes, by those that it takes, base..top of the stack.
 fn nesting_of(
-    r: Record,
-    base: usize,
-    top: usize,
     depth: &[u8; 256],
     quantifiers: &[u8; 256],
+    base: usize,
+    top: usize,
+    r: Record,
 ) -> Nesting
     requires { ⌜ (base ≤ top) × (top ≤ 256) × (length (now depth) ≡ 256) × (length (now quantifiers) ≡ 256) ⌝ }
-    ensures { λ x. ⌜ (x .depth ≡ 1 + greatest (drop base (take top (now (depth .entry))))) × (x .quantifiers ≡ binds r + greatest (drop base (take top (now (quantifiers .entry))))) ⌝ }
+    ensures { λ x. ⌜ (x .depth ≡ 1 + greatest (part base top (old depth))) × (x .quantifiers ≡ binds r + greatest (part base top (old quantifiers))) ⌝ }
 {
     let deepest = greatest_of(depth, base, top);
     let most = greatest_of(quantifiers, base, top);
@@ -181,20 +183,20 @@ fn nesting_of(
 // The first of the elements base..top, or k where there is none.
 fn first_of(a: &[u8; 256], base: usize, top: usize, k: usize) -> usize
     requires { ⌜ (top ≤ 256) × (k < 256) × (length (now a) ≡ 256) ⌝ }
-    ensures { λ r. ⌜ (r ≡ getD (drop base (take top (now (a .entry)))) 0 k) × (r < 256) ⌝ }
+    ensures { λ r. ⌜ (r ≡ getD (part base top (old a)) 0 k) × (r < 256) ⌝ }
 {
     if base < top {
-        return tree::wide(a[base]) as usize;
+        return record::wide(a[base]) as usize;
     }
     k
 }
 
-// Each of n records over count nodes: 5, 6, then 7; then 7 unless just one constraint is left. What the nodes say does not matter. The depth, the
+// Each of n records over count nodes: 5, 6, then 7; then 7 unless just one constraint is left. The depth, the
 // quantifiers and the first record of each finished constraint are on a stack; `starts` gets the first record of each that passes.
 pub fn test_records(count: usize, constraints: &[u8], n: usize, starts: &mut [usize; 256]) -> u8
     requires { ⌜ (n ≤ 256) × (24 * n ≤ length (now constraints)) × (length (now starts) ≡ 256) ⌝ }
-    ensures { λ r. ⌜ ((nodes : List ℕ) → r ≡ recordsRefusal nodes count (now (constraints .entry)) n) ⌝ }
-    ensures { λ _. ⌜ ((nodes : List ℕ) → now (starts .exit) ≡ filled (startAt (now (constraints .entry))) (passing (recordRefusal nodes count (now (constraints .entry))) n) (now (starts .entry))) ⌝ }
+    ensures { λ r. ⌜ r ≡ recordsRefusal count (old constraints) n ⌝ }
+    ensures { λ _. ⌜ final starts ≡ startsOf count (old constraints) n (old starts) ⌝ }
 {
     let mut depth = [0u8; 256];
     let mut quantifiers = [0u8; 256];
@@ -214,7 +216,7 @@ pub fn test_records(count: usize, constraints: &[u8], n: usize, starts: &mut [us
             return 6;
         }
         let base = top - m;
-        let x = nesting_of(r, base, top, &depth, &quantifiers);
+        let x = nesting_of(&depth, &quantifiers, base, top, r);
         if 16 < x.depth {
             return 7;
         }
@@ -237,19 +239,29 @@ pub fn test_records(count: usize, constraints: &[u8], n: usize, starts: &mut [us
 
 // ---- constraint k of records that passed
 
+// What a record names itself: an atom's variables, or the quantified one.
+fn own_vars(nodes: &[u8], r: Record) -> usize
+    requires { ⌜ Named (now nodes) r ⌝ }
+    ensures { λ x. ⌜ x ≡ ownVars (old nodes) r ⌝ }
+{
+    match r {
+        Record::Atom(_, i) => tree::num_vars(nodes, i),
+        Record::Not => 0,
+        Record::And(_) => 0,
+        Record::Or(_) => 0,
+        Record::ForAll(v, _, _) => v + 1,
+        Record::Exists(v, _, _) => v + 1,
+    }
+}
+
 // The number of variables.
 pub fn num_vars(nodes: &[u8], constraints: &[u8], starts: &[usize; 256], k: usize) -> usize
     requires { ⌜ Ready (now nodes) (now constraints) (k + 1) (now starts) ⌝ }
     ensures { λ r. ⌜ r ≡ numVars (the nodes constraints k) ⌝ }
 {
-    match record_in(constraints, k) {
-        Record::Atom(_, i) => tree::num_vars(nodes, i),
-        Record::Not => num_vars(nodes, constraints, starts, k - 1),
-        Record::And(m) => num_vars_all(nodes, constraints, starts, m, k),
-        Record::Or(m) => num_vars_all(nodes, constraints, starts, m, k),
-        Record::ForAll(v, _, _) => tree::larger(num_vars(nodes, constraints, starts, k - 1), v + 1),
-        Record::Exists(v, _, _) => tree::larger(num_vars(nodes, constraints, starts, k - 1), v + 1),
-    }
+    let r = record_in(constraints, k);
+    let taken = num_vars_all(nodes, constraints, starts, taken_by(r), k);
+    tree::larger(taken, own_vars(nodes, r))
 }
 
 // The most of the last m constraints that are finished before record end.
@@ -273,7 +285,9 @@ fn num_vars_all(
     tree::larger(before, last)
 }
 
-pub fn kind_of(rel: Relation) -> u32
+// ---- a record is written
+
+fn kind_of(rel: Relation) -> u32
     ensures { λ r. ⌜ r ≡ kindOf rel ⌝ }
 {
     match rel {
@@ -286,69 +300,55 @@ pub fn kind_of(rel: Relation) -> u32
     }
 }
 
-fn mix_range(h: u32, v: usize, lo: f64, hi: f64) -> u32
-    requires { ⌜ v < 16 ⌝ }
-    ensures { λ r. ⌜ r ≡ mixRange h v lo hi ⌝ }
+fn write_words(out: &mut [u8], at: usize, kind: u32, arg: u32, lo: u64, hi: u64)
+    requires { ⌜ at + 24 ≤ length (now out) ⌝ }
+    ensures { λ _. ⌜ final out ≡ sets (old out) at (u32Bytes kind ++ u32Bytes arg ++ u64Bytes lo ++ u64Bytes hi) ⌝ }
 {
-    tree::mix_f64(tree::mix_f64(tree::mix(h, v as u32), lo), hi)
+    record::write_u32(out, at, kind);
+    record::write_u32(out, at + 4, arg);
+    record::write_u64(out, at + 8, lo);
+    record::write_u64(out, at + 16, hi);
 }
 
-// The fingerprint.
-pub fn fingerprint(nodes: &[u8], constraints: &[u8], starts: &[usize; 256], k: usize) -> u32
-    requires { ⌜ Ready (now nodes) (now constraints) (k + 1) (now starts) ⌝ }
-    ensures { λ r. ⌜ r ≡ printOf (the nodes constraints k) ⌝ }
+// Record number `at`; the answer is the number of the next.
+pub fn write_record(out: &mut [u8], at: usize, r: Record) -> usize
+    requires { ⌜ Writable 1024 r × (24 * (at + 1) ≤ length (now out)) ⌝ }
+    ensures { λ n. ⌜ Puts (old out) (final out) at n (r ∷ []) ⌝ }
 {
-    match record_in(constraints, k) {
-        Record::Atom(rel, i) => tree::mix(tree::mix(5, kind_of(rel)), tree::fingerprint(nodes, i)),
-        Record::Not => tree::mix(6, fingerprint(nodes, constraints, starts, k - 1)),
-        Record::And(m) => mix_all(nodes, constraints, starts, m, k, tree::mix(7, m as u32)),
-        Record::Or(m) => mix_all(nodes, constraints, starts, m, k, tree::mix(8, m as u32)),
+    let place = 24 * at;
+    match r {
+        Record::Atom(relation, i) => {
+            write_words(out, place, kind_of(relation), i as u32, 0, 0);
+            at + 1
+        }
+        Record::Not => {
+            write_words(out, place, 6, 0, 0, 0);
+            at + 1
+        }
+        Record::And(m) => {
+            write_words(out, place, 7, m as u32, 0, 0);
+            at + 1
+        }
+        Record::Or(m) => {
+            write_words(out, place, 8, m as u32, 0, 0);
+            at + 1
+        }
         Record::ForAll(v, lo, hi) => {
-            let inside = fingerprint(nodes, constraints, starts, k - 1);
-            tree::mix(mix_range(9, v, lo, hi), inside)
+            let a = number::bits_of(lo);
+            let b = number::bits_of(hi);
+            write_words(out, place, 9, v as u32, a, b);
+            at + 1
         }
         Record::Exists(v, lo, hi) => {
-            let inside = fingerprint(nodes, constraints, starts, k - 1);
-            tree::mix(mix_range(10, v, lo, hi), inside)
+            let a = number::bits_of(lo);
+            let b = number::bits_of(hi);
+            write_words(out, place, 10, v as u32, a, b);
+            at + 1
         }
     }
-}
-
-// h with the fingerprints of the last m constraints that are finished before record end, oldest first.
-fn mix_all(
-    nodes: &[u8],
-    constraints: &[u8],
-    starts: &[usize; 256],
-    m: usize,
-    end: usize,
-    h: u32,
-) -> u32
-    requires { ⌜ Taken (now nodes) (now constraints) m end (now starts) ⌝ }
-    ensures { λ r. ⌜ r ≡ fingerprints (those nodes constraints m end) h ⌝ }
-{
-    if m == 0 {
-        return h;
-    }
-    let k = end - 1;
-    let s = starts[k];
-    let before = mix_all(nodes, constraints, starts, m - 1, s, h);
-    let last = fingerprint(nodes, constraints, starts, k);
-    tree::mix(before, last)
 }
 
 // ---- the comparisons
-
-fn write_atom(out: &mut [u8], rel: Relation, node: usize)
-    requires { ⌜ (24 ≤ length (now out)) × (node < 1024) ⌝ }
-    ensures { λ _. ⌜ now (out .exit) ≡ sets (now (out .entry)) 0 (recordBytes (Record.Atom rel node)) ⌝ }
-{
-    tree::write_u32(out, 0, kind_of(rel));
-    tree::write_u32(out, 4, node as u32);
-    tree::write_u32(out, 8, 0);
-    tree::write_u32(out, 12, 0);
-    tree::write_u32(out, 16, 0);
-    tree::write_u32(out, 20, 0);
-}
 
 // x - y is appended to the list of count nodes, and the atom's record on it is written to out.
 fn compare(
@@ -359,7 +359,7 @@ fn compare(
     y: usize,
     out: &mut [u8],
 ) -> Appended
-    ensures { λ r. ⌜ (r leaving now (nodes .exit) and now (out .exit)) ≡ compared rel (now (nodes .entry)) count x y (now (out .entry)) ⌝ }
+    ensures { λ r. ⌜ (r leaving (final nodes, final out)) ≡ compared rel (old nodes) count x y (old out) ⌝ }
 {
     let r = tree::sub_refusal(nodes, count, x, y);
     if r != 0 {
@@ -369,34 +369,35 @@ fn compare(
         return Appended::Refused(10);
     }
     tree::write_sub(nodes, count, x, y);
-    write_atom(out, rel, count + 6);
-    Appended::At(count + 6)
+    let result = count + 6;
+    write_record(out, 0, Record::Atom(rel, result));
+    Appended::At(result)
 }
 
 // x < y
 pub fn lt(nodes: &mut [u8], count: usize, x: usize, y: usize, out: &mut [u8]) -> Appended
-    ensures { λ r. ⌜ (r leaving now (nodes .exit) and now (out .exit)) ≡ compared Relation.LtZero (now (nodes .entry)) count x y (now (out .entry)) ⌝ }
+    ensures { λ r. ⌜ (r leaving (final nodes, final out)) ≡ compared Relation.LtZero (old nodes) count x y (old out) ⌝ }
 {
     compare(Relation::LtZero, nodes, count, x, y, out)
 }
 
 // x <= y
 pub fn le(nodes: &mut [u8], count: usize, x: usize, y: usize, out: &mut [u8]) -> Appended
-    ensures { λ r. ⌜ (r leaving now (nodes .exit) and now (out .exit)) ≡ compared Relation.LeZero (now (nodes .entry)) count x y (now (out .entry)) ⌝ }
+    ensures { λ r. ⌜ (r leaving (final nodes, final out)) ≡ compared Relation.LeZero (old nodes) count x y (old out) ⌝ }
 {
     compare(Relation::LeZero, nodes, count, x, y, out)
 }
 
 // x > y
 pub fn gt(nodes: &mut [u8], count: usize, x: usize, y: usize, out: &mut [u8]) -> Appended
-    ensures { λ r. ⌜ (r leaving now (nodes .exit) and now (out .exit)) ≡ compared Relation.GtZero (now (nodes .entry)) count x y (now (out .entry)) ⌝ }
+    ensures { λ r. ⌜ (r leaving (final nodes, final out)) ≡ compared Relation.GtZero (old nodes) count x y (old out) ⌝ }
 {
     compare(Relation::GtZero, nodes, count, x, y, out)
 }
 
 // x >= y
 pub fn ge(nodes: &mut [u8], count: usize, x: usize, y: usize, out: &mut [u8]) -> Appended
-    ensures { λ r. ⌜ (r leaving now (nodes .exit) and now (out .exit)) ≡ compared Relation.GeZero (now (nodes .entry)) count x y (now (out .entry)) ⌝ }
+    ensures { λ r. ⌜ (r leaving (final nodes, final out)) ≡ compared Relation.GeZero (old nodes) count x y (old out) ⌝ }
 {
     compare(Relation::GeZero, nodes, count, x, y, out)
 }

@@ -9,12 +9,13 @@ use lib.Dec.{eqb}
 use lib.ListN.{length, take, drop, length-drop}
 use lib.Seq.{take-all}
 use Rattle.number.specs.Notation.{if_then_else_}
-use Rattle.tree.specs.Refusal.{_or-else_, first}
-use Rattle.tree.specs.RefusalLaws.{or-else-refused, or-else-none}
+use Rattle.record.specs.Refusal.{_or-else_, first}
+use Rattle.record.specs.RefusalLaws.{or-else-refused, or-else-none}
 use Rattle.tree.specs.Nodes.{nodesRefusal, nodesFit, listRefusal}
 use Rattle.constraint.specs.Records.{recordsRefusal}
+use Rattle.constraint.specs.Starts.{startsOf}
 use Rattle.file.specs.File.{nodeCount, constraintCount, boundCount, constraintsFrom, boundsFrom, nodesOf, constraintsOf, boundsOf, isHeaded, isLaidOut, boundRefusal, refusal, isCounted, givenRefusal}
-use Rattle.file.specs.Code.{Laid, bodiesRefusal, startsBy, bodiesStarts, fileStarts, givenStarts}
+use Rattle.file.specs.Code.{Laid, bodiesRefusal, bodiesStarts, fileStarts, givenStarts}
 use Rattle.file.specs.FileLaws.{nodes-fit, list-is, counted, given-fit}
 
 module _ (file : List ℕ) (n c : ℕ) (en : n ≡ nodeCount file) (ec : c ≡ constraintCount file) where
@@ -49,7 +50,7 @@ module _ (nodes : List ℕ) (count : ℕ) (fit : nodesFit (length nodes) count �
   A = nodesRefusal nodes count
 
   abbrev starts : List ℕ
-  starts = if eqb A 0 then startsBy nodes count b n old else old
+  starts = if eqb A 0 then startsOf count b n old else old
 
   module _ (r : ℕ) (e : r ≡ listRefusal nodes count) where
     nodes-are : r ≡ A
@@ -57,15 +58,15 @@ module _ (nodes : List ℕ) (count : ℕ) (fit : nodesFit (length nodes) count �
 
     at-nodes : (x : ℕ) → (r ≡ 0 → ⊥) → (r ≡ (A or-else x)) × (old ≡ starts)
     unfolding if_then_else_
-    at-nodes x h = (here r A x nodes-are h, sym (ap (λ (t : Bool). if t then startsBy nodes count b n old else old) (ne-eqb A 0 (λ z. h (nodes-are ∙ z)))))
+    at-nodes x h = (here r A x nodes-are h, sym (ap (λ (t : Bool). if t then startsOf count b n old else old) (ne-eqb A 0 (λ z. h (nodes-are ∙ z)))))
 
     module _ (z : r ≡ 0) where
       none-yet : A ≡ 0
       none-yet = sym nodes-are ∙ z
 
-      kept : (a : List ℕ) → a ≡ startsBy nodes count b n old → a ≡ starts
+      kept : (a : List ℕ) → a ≡ startsOf count b n old → a ≡ starts
       unfolding if_then_else_
-      kept a e = e ∙ sym (ap (λ (i : ℕ). if eqb i 0 then startsBy nodes count b n old else old) none-yet)
+      kept a e = e ∙ sym (ap (λ (i : ℕ). if eqb i 0 then startsOf count b n old else old) none-yet)
 
 -- ---- the bodies of a file
 module _ (file old : List ℕ) (l : Laid file) (nodes : List ℕ) (count : ℕ) (en : nodes ≡ nodesOf file) (ec : count ≡ nodeCount file) (r : ℕ) (e : r ≡ listRefusal nodes count) where
@@ -80,18 +81,18 @@ module _ (file old : List ℕ) (l : Laid file) (nodes : List ℕ) (count : ℕ) 
   body-nodes h = at-nodes (nodesOf file) (nodeCount file) fit (constraintsOf file) (constraintCount file) old r list-of _ h
 
   module _ (z : r ≡ 0) (b : List ℕ) (n : ℕ) (eb : b ≡ constraintsOf file) (n-is : n ≡ constraintCount file) (s : ℕ) (after : List ℕ)
-      (es : (nodes : List ℕ) → s ≡ recordsRefusal nodes count b n) (ea : (nodes : List ℕ) → after ≡ startsBy nodes count b n old) where
-    same : {X : Type 0} (f : List ℕ → ℕ → List ℕ → ℕ → X) → f (nodesOf file) count b n ≡ f (nodesOf file) (nodeCount file) (constraintsOf file) (constraintCount file)
+      (es : s ≡ recordsRefusal count b n) (ea : after ≡ startsOf count b n old) where
+    same : {X : Type 0} (f : ℕ → List ℕ → ℕ → X) → f count b n ≡ f (nodeCount file) (constraintsOf file) (constraintCount file)
     same f = rw (ec, eb, n-is)
 
-    records-are : s ≡ recordsRefusal (nodesOf file) (nodeCount file) (constraintsOf file) (constraintCount file)
-    records-are = es (nodesOf file) ∙ same recordsRefusal
+    records-are : s ≡ recordsRefusal (nodeCount file) (constraintsOf file) (constraintCount file)
+    records-are = es ∙ same recordsRefusal
 
     after-is : after ≡ bodiesStarts file old
     unfolding bodiesStarts
     after-is =
         kept (nodesOf file) (nodeCount file) fit (constraintsOf file) (constraintCount file) old r list-of z after
-        (ea (nodesOf file) ∙ same (λ (ns : List ℕ) (c : ℕ) (b : List ℕ) (n : ℕ). startsBy ns c b n old))
+        (ea ∙ same (λ (c : ℕ) (b : List ℕ) (n : ℕ). startsOf c b n old))
 
     none : nodesRefusal (nodesOf file) (nodeCount file) ≡ 0
     none = none-yet (nodesOf file) (nodeCount file) fit (constraintsOf file) (constraintCount file) old r list-of z
@@ -136,11 +137,11 @@ module _ (nodes b old : List ℕ) where
     unfolding givenRefusal givenStarts
     given-nodes h = rw e (at-nodes nodes (length nodes / 16) fits b (length b / 24) old r el _ h)
 
-    pub given-records : r ≡ 0 → (s : ℕ) (after : List ℕ) → ((nodes′ : List ℕ) → s ≡ recordsRefusal nodes′ (length nodes / 16) b (length b / 24)) →
-        ((nodes′ : List ℕ) → after ≡ startsBy nodes′ (length nodes / 16) b (length b / 24) old) → (s ≡ givenRefusal nodes b) × (after ≡ givenStarts nodes b old)
+    pub given-records : r ≡ 0 → (s : ℕ) (after : List ℕ) → s ≡ recordsRefusal (length nodes / 16) b (length b / 24) →
+        after ≡ startsOf (length nodes / 16) b (length b / 24) old → (s ≡ givenRefusal nodes b) × (after ≡ givenStarts nodes b old)
     unfolding givenRefusal givenStarts
     given-records z s after es ea =
         rw e (
-          later s _ _ (none-yet nodes (length nodes / 16) fits b (length b / 24) old r el z) (es nodes),
-          kept nodes (length nodes / 16) fits b (length b / 24) old r el z after (ea nodes),
+          later s _ _ (none-yet nodes (length nodes / 16) fits b (length b / 24) old r el z) es,
+          kept nodes (length nodes / 16) fits b (length b / 24) old r el z after ea,
         )

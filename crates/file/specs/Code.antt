@@ -6,10 +6,10 @@ use mathlib.Core.List.{List}
 use lib.Dec.{eqb}
 use lib.ListN.{length}
 use Rattle.number.specs.Notation.{if_then_else_}
-use Rattle.tree.specs.Refusal.{_or-else_, first, passing, filled}
+use Rattle.record.specs.Refusal.{_or-else_, first}
 use Rattle.tree.specs.Nodes.{nodesRefusal}
-use Rattle.constraint.specs.Records.{recordRefusal, recordsRefusal}
-use Rattle.constraint.specs.Starts.{startAt}
+use Rattle.constraint.specs.Records.{recordsRefusal}
+use Rattle.constraint.specs.Starts.{startsOf}
 use Rattle.file.specs.File.{nodeCount, constraintCount, boundCount, boundsFrom, nodesOf, constraintsOf, boundsOf, isHeaded, isLaidOut, boundRefusal, isCounted}
 
 pub record Laid (file : List ℕ) : Type 0 where
@@ -22,17 +22,14 @@ pub record Laid (file : List ℕ) : Type 0 where
 unfoldable pub bodiesRefusal : List ℕ → ℕ
 bodiesRefusal file =
     nodesRefusal (nodesOf file) (nodeCount file)
-    or-else recordsRefusal (nodesOf file) (nodeCount file) (constraintsOf file) (constraintCount file)
+    or-else recordsRefusal (nodeCount file) (constraintsOf file) (constraintCount file)
     or-else first (boundRefusal (boundsOf file)) (boundCount file)
 
 -- the first record of each constraint that passes, where the nodes do
-abbrev pub startsBy : List ℕ → ℕ → List ℕ → ℕ → List ℕ → List ℕ
-startsBy nodes count b n old = filled (startAt b) (passing (recordRefusal nodes count b) n) old
-
 unfoldable pub bodiesStarts : List ℕ → List ℕ → List ℕ
 bodiesStarts file old =
     if eqb (nodesRefusal (nodesOf file) (nodeCount file)) 0
-    then startsBy (nodesOf file) (nodeCount file) (constraintsOf file) (constraintCount file) old
+    then startsOf (nodeCount file) (constraintsOf file) (constraintCount file) old
     else old
 
 unfoldable pub fileStarts : List ℕ → List ℕ → List ℕ
@@ -41,5 +38,5 @@ fileStarts file old = if isHeaded file && isLaidOut file then bodiesStarts file 
 unfoldable pub givenStarts : List ℕ → List ℕ → List ℕ → List ℕ
 givenStarts nodes b old =
     if isCounted nodes b && eqb (nodesRefusal nodes (length nodes / 16)) 0
-    then startsBy nodes (length nodes / 16) b (length b / 24) old
+    then startsOf (length nodes / 16) b (length b / 24) old
     else old

@@ -3,5 +3,5 @@ use Rattle.constraint.specs.Computing as Below
 use Rattle.file.specs.File
 
 unfoldable pub computing : Unit {0}
-unfolding Below.computing File.nodesOf File.constraintsOf File.boundsOf File.isHeaded File.isLaidOut File.boundAt File.bounds File.boundRefusal File.refusal File.left File.readFile File.isCounted File.givenRefusal File.readGiven
+unfolding Below.computing File.nodesOf File.constraintsOf File.boundsOf File.isHeaded File.isLaidOut File.boundAt File.bounds File.boundRefusal File.refusal File.readFile File.isCounted File.givenRefusal File.readGiven
 computing = tt

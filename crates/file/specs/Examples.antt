@@ -7,12 +7,12 @@ use lib.ListN.{length, set, take}
 use Rattle.number.specs.Notation.{bits}
 use Rattle.interval.specs.Interval.{_‥_}
 use Rattle.interval.specs.declared.Interval.{Interval}
-use Rattle.tree.specs.Bytes.{u32Bytes, u64Bytes}
+use Rattle.record.specs.Bytes.{u32Bytes, u64Bytes}
 use Rattle.tree.specs.Tree.{Tree}
-use Rattle.tree.specs.Canonical.{nodesBytes}
+use Rattle.tree.specs.Encoding.{nodesBytes}
 use Rattle.tree.specs.declared.Node.{Node}
-use Rattle.constraint.specs.Constraint.{Constraint}
-use Rattle.constraint.specs.Comparison.{recordsBytes}
+use Rattle.constraint.specs.Constraint.{Atom}
+use Rattle.constraint.specs.Encoding.{recordsBytes}
 use Rattle.constraint.specs.declared.Relation.{Relation}
 use Rattle.constraint.specs.declared.Record.{Record}
 use Rattle.file.specs.File.{refusal, readFile, givenRefusal, Accepted}
@@ -55,7 +55,7 @@ document-length : length document ≡ 88
 unfolding making
 document-length = refl
 
-document-read : readFile document ≡ Accepted (Constraint.Atom Relation.GtZero (Tree.Var 0)) ((bits one ‥ bits three) ∷ [])
+document-read : readFile document ≡ Accepted (Atom Relation.GtZero (Tree.Var 0)) ((bits one ‥ bits three) ∷ [])
 unfolding making
 document-read = refl
 

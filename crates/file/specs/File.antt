@@ -1,16 +1,16 @@
 -- The house file (document 01, "The file") and the refusals that its writer can cause, 1 to 7; and the same of records given without a file.
-use Prim.Native.Nat.{ℕ, zero, suc, _+_, _*_, _/_, _%_}
+use Prim.Native.Nat.{ℕ, zero, suc, _+_, _*_, _-_, _/_, _%_}
 use mathlib.Core.Bool.{Bool, _&&_}
 use mathlib.Core.List.{List, [], _∷_, _++_}
 use lib.Dec.{leb, eqb}
 use lib.Ieee.{binary64}
-use lib.ListN.{length, getD, take, drop}
-use Rattle.number.specs.Halving.{sound}
-use Rattle.tree.specs.Bytes.{u32At, f64At}
-use Rattle.tree.specs.Refusal.{_or-else_, _unless_, first}
+use lib.ListN.{length, take, drop}
+use Rattle.number.specs.Sound.{sound}
+use Rattle.record.specs.Bytes.{u32At, f64At}
+use Rattle.record.specs.Refusal.{_or-else_, _unless_, first}
 use Rattle.tree.specs.Nodes.{nodesRefusal}
 use Rattle.constraint.specs.Constraint.{Constraint}
-use Rattle.constraint.specs.Records.{none, finished, recordsRefusal}
+use Rattle.constraint.specs.Records.{constraintAt, recordsRefusal}
 use Rattle.interval.specs.Interval.{_‥_}
 use Rattle.interval.specs.declared.Interval.{Interval}
 
@@ -73,7 +73,7 @@ refusal file =
     1 unless isHeaded file
     or-else 2 unless isLaidOut file
     or-else nodesRefusal (nodesOf file) (nodeCount file)
-    or-else recordsRefusal (nodesOf file) (nodeCount file) (constraintsOf file) (constraintCount file)
+    or-else recordsRefusal (nodeCount file) (constraintsOf file) (constraintCount file)
     or-else first (boundRefusal (boundsOf file)) (boundCount file)
 
 -- what a file says, or its refusal
@@ -85,16 +85,16 @@ abbrev pub readBy : ℕ → Read → Read
 readBy zero r = r
 readBy (suc n) r = Refused (suc n)
 
--- the one constraint that n records leave
-unfoldable pub left : List ℕ → List ℕ → ℕ → Constraint
-left nodes b n = getD (finished nodes b n) 0 none
+-- the one constraint that n records leave: what the last of them finishes. Where just one stays, it is that (`RecordLaws.only-left`).
+abbrev pub left : List ℕ → List ℕ → ℕ → Constraint
+left nodes b n = constraintAt nodes b (n - 1)
 
 unfoldable pub readFile : List ℕ → Read
 readFile file =
     readBy (refusal file)
     (Accepted (left (nodesOf file) (constraintsOf file) (constraintCount file)) (bounds (boundsOf file) (boundCount file)))
 
--- ---- node records and constraint records in the place of a file: as many as the bytes make; 2 where they make none, or too many
+-- ---- node records and constraint records in the place of a file: as many as the bytes make; 2 where they make no whole number of them, or too many
 unfoldable pub isCounted : List ℕ → List ℕ → Bool
 isCounted nodes b = eqb (length nodes % 16) 0 && leb (length nodes / 16) 1024 && eqb (length b % 24) 0 && leb (length b / 24) 256
 
@@ -102,7 +102,7 @@ unfoldable pub givenRefusal : List ℕ → List ℕ → ℕ
 givenRefusal nodes b =
     2 unless isCounted nodes b
     or-else nodesRefusal nodes (length nodes / 16)
-    or-else recordsRefusal nodes (length nodes / 16) b (length b / 24)
+    or-else recordsRefusal (length nodes / 16) b (length b / 24)
 
 unfoldable pub readGiven : List ℕ → List ℕ → Read
 readGiven nodes b = readBy (givenRefusal nodes b) (Accepted (left nodes b (length b / 24)) [])

@@ -1,6 +1,6 @@
 -- Laws of files that are laid out, and of files and records that are accepted: what a function that takes one cites. Assumes nothing.
-use Prim.Native.Nat.{ℕ, suc, _+_, _*_, _-_, _/_, _%_, _≤_, _<_}
-use mathlib.Core.Path.{_≡_, _∙_}
+use Prim.Native.Nat.{ℕ, zero, suc, _+_, _*_, _-_, _/_, _%_, _≤_, _<_}
+use mathlib.Core.Path.{_≡_, sym, ap, _∙_}
 use mathlib.Core.Bool.{true, _&&_}
 use mathlib.Core.List.{List, []}
 use native.Mathlib.Omega.{arith}
@@ -8,18 +8,18 @@ use borrow.Author.Tests.{leb-true, eqb-true, le-leb}
 use lib.Dec.{leb, eqb}
 use lib.Ieee.{binary64}
 use lib.ListN.{length, length-take, length-drop}
-use Rattle.number.specs.Halving.{sound}
+use Rattle.number.specs.Sound.{sound}
 use Rattle.number.specs.Notation.{if_then_else_}
-use Rattle.tree.specs.Bytes.{u32At}
-use Rattle.tree.specs.Refusal.{_unless_, first}
-use Rattle.tree.specs.RefusalLaws.{both, none-both, none-unless, none-of-each}
+use Rattle.record.specs.Bytes.{u32At}
+use Rattle.record.specs.Refusal.{_unless_, first}
+use Rattle.record.specs.RefusalLaws.{both, none-both, none-unless, none-of-each}
 use Rattle.tree.specs.Nodes.{nodesRefusal, nodesFit, listRefusal, Valid}
 use Rattle.tree.specs.NodeLaws.{list-valid}
-use Rattle.constraint.specs.Records.{constraintAt, recordsRefusal}
-use Rattle.constraint.specs.Starts.{Ready}
-use Rattle.constraint.specs.RecordLaws.{ready, one-left, root}
-use Rattle.file.specs.File.{nodeCount, constraintCount, boundCount, constraintsFrom, boundsFrom, nodesOf, constraintsOf, boundsOf, isHeaded, isLaidOut, boundAt, bounds, boundRefusal, refusal, Refused, Accepted, left, readFile, isCounted, givenRefusal, readGiven}
-use Rattle.file.specs.Code.{Laid, startsBy, bodiesStarts, fileStarts, givenStarts}
+use Rattle.constraint.specs.Records.{recordsRefusal}
+use Rattle.constraint.specs.Starts.{startsOf, Ready}
+use Rattle.constraint.specs.RecordLaws.{only-left, ready}
+use Rattle.file.specs.File.{nodeCount, constraintCount, boundCount, constraintsFrom, boundsFrom, nodesOf, constraintsOf, boundsOf, isHeaded, isLaidOut, boundAt, bounds, boundRefusal, refusal, Read, Refused, Accepted, readBy, left, readFile, isCounted, givenRefusal, readGiven}
+use Rattle.file.specs.Code.{Laid, bodiesStarts, fileStarts, givenStarts}
 
 -- ---- laid out
 pub headed-long : (file : List ℕ) → isHeaded file ≡ true → 32 ≤ length file
@@ -84,29 +84,29 @@ pub given-fit : (nodes : List ℕ) → length nodes / 16 ≤ 1024 → nodesFit (
 unfolding nodesFit
 given-fit nodes h = rw (le-leb (length nodes / 16) 1024 h, le-leb (16 * (length nodes / 16)) (length nodes) (omega arith))
 
-pub given-refused : (nodes b : List ℕ) (r : ℕ) → givenRefusal nodes b ≡ suc r → readGiven nodes b ≡ Refused (suc r)
+-- ---- what is refused with r
+pub read-refused : (r n : ℕ) (x : Read) → r ≡ n → (r ≡ 0 → ⊥) → readBy n x ≡ Refused r
+read-refused r zero x e h = absurd (h e)
+read-refused r (suc n) x e h = ap Refused (sym e)
+
+pub file-refused : (file : List ℕ) (r : ℕ) → r ≡ refusal file → (r ≡ 0 → ⊥) → readFile file ≡ Refused r
+unfolding readFile
+file-refused file r e h = read-refused r _ _ e h
+
+pub given-refused : (nodes b : List ℕ) (r : ℕ) → r ≡ givenRefusal nodes b → (r ≡ 0 → ⊥) → readGiven nodes b ≡ Refused r
 unfolding readGiven
-given-refused nodes b r e = rw e
-
--- ---- what is left of records that passed
-module _ (nodes : List ℕ) (count : ℕ) (b : List ℕ) (n : ℕ) (e : recordsRefusal nodes count b n ≡ 0) where
-  some-record : 0 < n
-  some-record = root nodes b n (one-left nodes count b n e) .0
-
-  pub left-is : left nodes b n ≡ constraintAt nodes b (n - 1)
-  unfolding left
-  left-is = root nodes b n (one-left nodes count b n e) .1
+given-refused nodes b r e h = read-refused r _ _ e h
 
 -- ---- an accepted file
 module _ (file : List ℕ) (e : refusal file ≡ 0) where
   passed : (isHeaded file ≡ true) × (isLaidOut file ≡ true) × (nodesRefusal (nodesOf file) (nodeCount file) ≡ 0)
-      × (recordsRefusal (nodesOf file) (nodeCount file) (constraintsOf file) (constraintCount file) ≡ 0) × (first (boundRefusal (boundsOf file)) (boundCount file) ≡ 0)
+      × (recordsRefusal (nodeCount file) (constraintsOf file) (constraintCount file) ≡ 0) × (first (boundRefusal (boundsOf file)) (boundCount file) ≡ 0)
   unfolding refusal
   passed =
       let w₁ = none-both (1 unless isHeaded file) _ e in
       let w₂ = none-both (2 unless isLaidOut file) _ (w₁ .1) in
       let w₃ = none-both (nodesRefusal (nodesOf file) (nodeCount file)) _ (w₂ .1) in
-      let w₄ = none-both (recordsRefusal (nodesOf file) (nodeCount file) (constraintsOf file) (constraintCount file)) _ (w₃ .1) in
+      let w₄ = none-both (recordsRefusal (nodeCount file) (constraintsOf file) (constraintCount file)) _ (w₃ .1) in
       (none-unless 0 (isHeaded file) (w₁ .0), none-unless 1 (isLaidOut file) (w₂ .0), w₃ .0, w₄ .0, w₄ .1)
 
   pub is-laid : Laid file
@@ -116,24 +116,24 @@ module _ (file : List ℕ) (e : refusal file ≡ 0) where
   file-valid = list-valid (nodesOf file) (nodeCount file) (list-is (nodesOf file) (nodeCount file) (nodes-fit file is-laid) ∙ passed .2)
 
   pub some-constraint : 0 < constraintCount file
-  some-constraint = some-record (nodesOf file) (nodeCount file) (constraintsOf file) (constraintCount file) (passed .3)
+  some-constraint = only-left (nodeCount file) (constraintsOf file) (constraintCount file) (passed .3) .0
 
   pub bound-sound : (k : ℕ) → k < boundCount file → sound binary64 (boundAt (boundsOf file) k .lo) (boundAt (boundsOf file) k .hi) ≡ true
   unfolding boundRefusal
   bound-sound k l = none-unless 5 _ (none-of-each (boundRefusal (boundsOf file)) (boundCount file) (passed .4) k l)
 
-  starts-are : (old : List ℕ) → fileStarts file old ≡ startsBy (nodesOf file) (nodeCount file) (constraintsOf file) (constraintCount file) old
+  starts-are : (old : List ℕ) → fileStarts file old ≡ startsOf (nodeCount file) (constraintsOf file) (constraintCount file) old
   unfolding fileStarts bodiesStarts if_then_else_
   starts-are old = rw (passed .0, passed .1, passed .2)
 
   pub file-ready : (old starts : List ℕ) → length old ≡ 256 → starts ≡ fileStarts file old → Ready (nodesOf file) (constraintsOf file) (constraintCount file) starts
   file-ready old starts h s =
-      ready (nodesOf file) (nodeCount file) (constraintsOf file) (constraintCount file) (passed .3) file-valid (is-laid .few-constraints)
+      ready (nodeCount file) (constraintsOf file) (constraintCount file) (passed .3) (nodesOf file) file-valid (is-laid .few-constraints)
       (omega (arith, length-constraints file is-laid)) old starts h (s ∙ starts-are old)
 
-  pub read-is : readFile file ≡ Accepted (constraintAt (nodesOf file) (constraintsOf file) (constraintCount file - 1)) (bounds (boundsOf file) (boundCount file))
+  pub read-is : readFile file ≡ Accepted (left (nodesOf file) (constraintsOf file) (constraintCount file)) (bounds (boundsOf file) (boundCount file))
   unfolding readFile
-  read-is = rw (e, left-is (nodesOf file) (nodeCount file) (constraintsOf file) (constraintCount file) (passed .3))
+  read-is = rw e
 
 -- its last constraint, for a recursion that gets the bodies as `nodes_of`, `constraints_of`, `constraint_count` and `test_file` return them
 module _ (file : List ℕ) (e : refusal file ≡ 0) (nodes b : List ℕ) (n : ℕ) (en : nodes ≡ nodesOf file) (eb : b ≡ constraintsOf file) (ec : n ≡ constraintCount file) where
@@ -142,12 +142,12 @@ module _ (file : List ℕ) (e : refusal file ≡ 0) (nodes b : List ℕ) (n : �
       let m : n - 1 + 1 ≡ constraintCount file = omega (arith, some-constraint file e) in
       rw (en, eb, m) (file-ready file e old starts h s)
 
-  pub last-is : readFile file ≡ Accepted (constraintAt nodes b (n - 1)) (bounds (boundsOf file) (boundCount file))
+  pub last-is : readFile file ≡ Accepted (left nodes b n) (bounds (boundsOf file) (boundCount file))
   last-is = rw (en, eb, ec) (read-is file e)
 
 -- ---- accepted records
 module _ (nodes b : List ℕ) (e : givenRefusal nodes b ≡ 0) where
-  pub passed-given : (isCounted nodes b ≡ true) × (nodesRefusal nodes (length nodes / 16) ≡ 0) × (recordsRefusal nodes (length nodes / 16) b (length b / 24) ≡ 0)
+  pub passed-given : (isCounted nodes b ≡ true) × (nodesRefusal nodes (length nodes / 16) ≡ 0) × (recordsRefusal (length nodes / 16) b (length b / 24) ≡ 0)
   unfolding givenRefusal
   passed-given =
       let w₁ = none-both (2 unless isCounted nodes b) _ e in
@@ -158,16 +158,22 @@ module _ (nodes b : List ℕ) (e : givenRefusal nodes b ≡ 0) where
   given-valid = list-valid nodes (length nodes / 16) (list-is nodes (length nodes / 16) (given-fit nodes (counted nodes b (passed-given .0) .0)) ∙ passed-given .1)
 
   pub some-given : 0 < length b / 24
-  some-given = some-record nodes (length nodes / 16) b (length b / 24) (passed-given .2)
+  some-given = only-left (length nodes / 16) b (length b / 24) (passed-given .2) .0
 
-  given-starts : (old : List ℕ) → givenStarts nodes b old ≡ startsBy nodes (length nodes / 16) b (length b / 24) old
+  given-starts : (old : List ℕ) → givenStarts nodes b old ≡ startsOf (length nodes / 16) b (length b / 24) old
   unfolding givenStarts if_then_else_
   given-starts old = rw (passed-given .0, passed-given .1)
 
   pub given-ready : (old starts : List ℕ) → length old ≡ 256 → starts ≡ givenStarts nodes b old → Ready nodes b (length b / 24) starts
   given-ready old starts h s =
-      ready nodes (length nodes / 16) b (length b / 24) (passed-given .2) given-valid (counted nodes b (passed-given .0) .1) (omega arith) old starts h (s ∙ given-starts old)
+      ready (length nodes / 16) b (length b / 24) (passed-given .2) nodes given-valid (counted nodes b (passed-given .0) .1) (omega arith) old starts h (s ∙ given-starts old)
 
-  pub given-is : readGiven nodes b ≡ Accepted (constraintAt nodes b (length b / 24 - 1)) []
+  -- its last record
+  pub last-given : (old starts : List ℕ) → length old ≡ 256 → starts ≡ givenStarts nodes b old → Ready nodes b (length b / 24 - 1 + 1) starts
+  last-given old starts h s =
+      let m : length b / 24 - 1 + 1 ≡ length b / 24 = omega (arith, some-given) in
+      rw m (given-ready old starts h s)
+
+  pub given-is : readGiven nodes b ≡ Accepted (left nodes b (length b / 24)) []
   unfolding readGiven
-  given-is = rw (e, left-is nodes (length nodes / 16) b (length b / 24) (passed-given .2))
+  given-is = rw e

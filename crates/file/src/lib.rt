@@ -4,35 +4,35 @@ use tree::Tested;
 ghost use mathlib.Core.Path.{_≡_};
 ghost use Prim.Native.Nat.{_+_, _*_, _/_, _≤_};
 ghost use lib.ListN.{length};
-ghost use Rattle.tree.specs.Refusal.{first};
+ghost use Rattle.record.specs.Refusal.{first};
 ghost use Rattle.tree.specs.Code.{Within};
 ghost use Rattle.file.specs.File.{nodeCount, constraintCount, boundCount, nodesOf, constraintsOf, boundsOf, isHeaded, isLaidOut, boundAt, boundRefusal, refusal, readFile, givenRefusal};
 ghost use Rattle.file.specs.Code.{Laid, bodiesRefusal, bodiesStarts, fileStarts, givenStarts};
 ghost use Rattle.file.specs.Answer.{answered};
 ghost use Rattle.constraint.specs.Constraint.{numVars};
-ghost use Rattle.constraint.specs.Fingerprint.{fingerprint as printOf};
+ghost use Rattle.record.specs.Views.{old, final};
 
 fn is_headed(file: &[u8]) -> bool
-    ensures { λ r. ⌜ r ≡ isHeaded (now (file .entry)) ⌝ }
+    ensures { λ r. ⌜ r ≡ isHeaded (old file) ⌝ }
 {
     if file.len() < 32 {
         return false;
     }
-    let mark = tree::read_u32(file, 0);
-    let version = tree::read_u32(file, 4);
+    let mark = record::read_u32(file, 0);
+    let version = record::read_u32(file, 4);
     (mark == 0x514c_4d45) & (version == 1)
 }
 
 fn is_laid_out(file: &[u8]) -> bool
     requires { ⌜ 32 ≤ length (now file) ⌝ }
-    ensures { λ r. ⌜ r ≡ isLaidOut (now (file .entry)) ⌝ }
+    ensures { λ r. ⌜ r ≡ isLaidOut (old file) ⌝ }
 {
-    let nodes = tree::read_u32(file, 12) as usize;
-    let constraints = tree::read_u32(file, 20) as usize;
-    let bounds = tree::read_u32(file, 28) as usize;
-    let x = tree::read_u32(file, 8) as usize;
-    let y = tree::read_u32(file, 16) as usize;
-    let z = tree::read_u32(file, 24) as usize;
+    let nodes = record::read_u32(file, 12) as usize;
+    let constraints = record::read_u32(file, 20) as usize;
+    let bounds = record::read_u32(file, 28) as usize;
+    let x = record::read_u32(file, 8) as usize;
+    let y = record::read_u32(file, 16) as usize;
+    let z = record::read_u32(file, 24) as usize;
     let from = 32 + 16 * nodes;
     let to = from + 24 * constraints;
     let end = to + 16 * bounds;
@@ -50,28 +50,28 @@ fn is_laid_out(file: &[u8]) -> bool
 
 pub fn node_count(file: &[u8]) -> usize
     requires { ⌜ 32 ≤ length (now file) ⌝ }
-    ensures { λ r. ⌜ r ≡ nodeCount (now (file .entry)) ⌝ }
+    ensures { λ r. ⌜ r ≡ nodeCount (old file) ⌝ }
 {
-    tree::read_u32(file, 12) as usize
+    record::read_u32(file, 12) as usize
 }
 
 pub fn constraint_count(file: &[u8]) -> usize
     requires { ⌜ 32 ≤ length (now file) ⌝ }
-    ensures { λ r. ⌜ r ≡ constraintCount (now (file .entry)) ⌝ }
+    ensures { λ r. ⌜ r ≡ constraintCount (old file) ⌝ }
 {
-    tree::read_u32(file, 20) as usize
+    record::read_u32(file, 20) as usize
 }
 
 pub fn bound_count(file: &[u8]) -> usize
     requires { ⌜ 32 ≤ length (now file) ⌝ }
-    ensures { λ r. ⌜ r ≡ boundCount (now (file .entry)) ⌝ }
+    ensures { λ r. ⌜ r ≡ boundCount (old file) ⌝ }
 {
-    tree::read_u32(file, 28) as usize
+    record::read_u32(file, 28) as usize
 }
 
 pub fn nodes_of(file: &[u8]) -> &[u8]
     requires { ⌜ Laid (now file) ⌝ }
-    ensures { λ r. ⌜ now r ≡ nodesOf (now (file .entry)) ⌝ }
+    ensures { λ r. ⌜ now r ≡ nodesOf (old file) ⌝ }
 {
     let to = 32 + 16 * node_count(file);
     &file[32..to]
@@ -79,7 +79,7 @@ pub fn nodes_of(file: &[u8]) -> &[u8]
 
 pub fn constraints_of(file: &[u8]) -> &[u8]
     requires { ⌜ Laid (now file) ⌝ }
-    ensures { λ r. ⌜ now r ≡ constraintsOf (now (file .entry)) ⌝ }
+    ensures { λ r. ⌜ now r ≡ constraintsOf (old file) ⌝ }
 {
     let from = 32 + 16 * node_count(file);
     let to = from + 24 * constraint_count(file);
@@ -88,7 +88,7 @@ pub fn constraints_of(file: &[u8]) -> &[u8]
 
 pub fn bounds_of(file: &[u8]) -> &[u8]
     requires { ⌜ Laid (now file) ⌝ }
-    ensures { λ r. ⌜ now r ≡ boundsOf (now (file .entry)) ⌝ }
+    ensures { λ r. ⌜ now r ≡ boundsOf (old file) ⌝ }
 {
     let from = 32 + 16 * node_count(file) + 24 * constraint_count(file);
     &file[from..]
@@ -97,16 +97,19 @@ pub fn bounds_of(file: &[u8]) -> &[u8]
 // Bound k, read with no test.
 pub fn bound_in(bounds: &[u8], k: usize) -> Interval
     requires { ⌜ 16 * k + 16 ≤ length (now bounds) ⌝ }
-    ensures { λ r. ⌜ r ≡ boundAt (now (bounds .entry)) k ⌝ }
+    ensures { λ r. ⌜ r ≡ boundAt (old bounds) k ⌝ }
 {
     let at = 16 * k;
-    Interval::new(tree::read_f64(bounds, at), tree::read_f64(bounds, at + 8))
+    Interval::new(
+        record::read_f64(bounds, at),
+        record::read_f64(bounds, at + 8),
+    )
 }
 
 // Each of n bounds: 6.
 fn test_bounds(bounds: &[u8], n: usize) -> u8
     requires { ⌜ 16 * n ≤ length (now bounds) ⌝ }
-    ensures { λ r. ⌜ r ≡ first (boundRefusal (now (bounds .entry))) n ⌝ }
+    ensures { λ r. ⌜ r ≡ first (boundRefusal (old bounds)) n ⌝ }
 {
     let mut k: usize = 0;
     while k < n {
@@ -123,8 +126,8 @@ fn test_bounds(bounds: &[u8], n: usize) -> u8
 
 fn test_bodies(file: &[u8], starts: &mut [usize; 256]) -> u8
     requires { ⌜ Laid (now file) × (length (now starts) ≡ 256) ⌝ }
-    ensures { λ r. ⌜ r ≡ bodiesRefusal (now (file .entry)) ⌝ }
-    ensures { λ _. ⌜ now (starts .exit) ≡ bodiesStarts (now (file .entry)) (now (starts .entry)) ⌝ }
+    ensures { λ r. ⌜ r ≡ bodiesRefusal (old file) ⌝ }
+    ensures { λ _. ⌜ final starts ≡ bodiesStarts (old file) (old starts) ⌝ }
 {
     let count = node_count(file);
     let first = tree::test_list(nodes_of(file), count);
@@ -142,8 +145,8 @@ fn test_bodies(file: &[u8], starts: &mut [usize; 256]) -> u8
 // The refusal of a file, or 0. `starts` gets the first record of each constraint that passes.
 pub fn test_file(file: &[u8], starts: &mut [usize; 256]) -> u8
     requires { ⌜ length (now starts) ≡ 256 ⌝ }
-    ensures { λ r. ⌜ r ≡ refusal (now (file .entry)) ⌝ }
-    ensures { λ _. ⌜ now (starts .exit) ≡ fileStarts (now (file .entry)) (now (starts .entry)) ⌝ }
+    ensures { λ r. ⌜ r ≡ refusal (old file) ⌝ }
+    ensures { λ _. ⌜ final starts ≡ fileStarts (old file) (old starts) ⌝ }
 {
     if !is_headed(file) {
         return 1;
@@ -157,9 +160,9 @@ pub fn test_file(file: &[u8], starts: &mut [usize; 256]) -> u8
 // The same of node records and constraint records given without a file, and the largest size of a node's tree.
 pub fn test_sized(nodes: &[u8], constraints: &[u8], starts: &mut [usize; 256]) -> Tested
     requires { ⌜ length (now starts) ≡ 256 ⌝ }
-    ensures { λ r. ⌜ r .refusal ≡ givenRefusal (now (nodes .entry)) (now (constraints .entry)) ⌝ }
-    ensures { λ _. ⌜ now (starts .exit) ≡ givenStarts (now (nodes .entry)) (now (constraints .entry)) (now (starts .entry)) ⌝ }
-    ensures { λ r. ⌜ (r .refusal ≡ 0 → Within (now (nodes .entry)) (length (now (nodes .entry)) / 16) (r .largest)) ⌝ }
+    ensures { λ r. ⌜ r .refusal ≡ givenRefusal (old nodes) (old constraints) ⌝ }
+    ensures { λ _. ⌜ final starts ≡ givenStarts (old nodes) (old constraints) (old starts) ⌝ }
+    ensures { λ r. ⌜ (r .refusal ≡ 0 → Within (old nodes) (length (old nodes) / 16) (r .largest)) ⌝ }
 {
     let x = nodes.len();
     let y = constraints.len();
@@ -183,8 +186,8 @@ pub fn test_sized(nodes: &[u8], constraints: &[u8], starts: &mut [usize; 256]) -
 // Its refusal only.
 pub fn test_given(nodes: &[u8], constraints: &[u8], starts: &mut [usize; 256]) -> u8
     requires { ⌜ length (now starts) ≡ 256 ⌝ }
-    ensures { λ r. ⌜ r ≡ givenRefusal (now (nodes .entry)) (now (constraints .entry)) ⌝ }
-    ensures { λ _. ⌜ now (starts .exit) ≡ givenStarts (now (nodes .entry)) (now (constraints .entry)) (now (starts .entry)) ⌝ }
+    ensures { λ r. ⌜ r ≡ givenRefusal (old nodes) (old constraints) ⌝ }
+    ensures { λ _. ⌜ final starts ≡ givenStarts (old nodes) (old constraints) (old starts) ⌝ }
 {
     let t = test_sized(nodes, constraints, starts);
     t.refusal
@@ -194,7 +197,7 @@ pub fn test_given(nodes: &[u8], constraints: &[u8], starts: &mut [usize; 256]) -
 
 // The refusal of a file, or 0.
 pub fn read(file: &[u8]) -> u8
-    ensures { λ r. ⌜ r ≡ refusal (now (file .entry)) ⌝ }
+    ensures { λ r. ⌜ r ≡ refusal (old file) ⌝ }
 {
     let mut starts = [0usize; 256];
     test_file(file, &mut starts)
@@ -202,7 +205,7 @@ pub fn read(file: &[u8]) -> u8
 
 // The refusal of records, or 0.
 pub fn read_given(nodes: &[u8], constraints: &[u8]) -> u8
-    ensures { λ r. ⌜ r ≡ givenRefusal (now (nodes .entry)) (now (constraints .entry)) ⌝ }
+    ensures { λ r. ⌜ r ≡ givenRefusal (old nodes) (old constraints) ⌝ }
 {
     let mut starts = [0usize; 256];
     test_given(nodes, constraints, &mut starts)
@@ -216,7 +219,7 @@ pub enum Answer {
 
 // The number of variables of a file's constraint.
 pub fn num_vars(file: &[u8]) -> Answer
-    ensures { λ r. ⌜ r ≡ answered numVars (readFile (now (file .entry))) ⌝ }
+    ensures { λ r. ⌜ r ≡ answered numVars (readFile (old file)) ⌝ }
 {
     let mut starts = [0usize; 256];
     let r = test_file(file, &mut starts);
@@ -226,18 +229,4 @@ pub fn num_vars(file: &[u8]) -> Answer
     let last = constraint_count(file) - 1;
     let v = constraint::num_vars(nodes_of(file), constraints_of(file), &starts, last);
     Answer::Value(v as u64)
-}
-
-// The fingerprint of a file's constraint.
-pub fn fingerprint(file: &[u8]) -> Answer
-    ensures { λ r. ⌜ r ≡ answered printOf (readFile (now (file .entry))) ⌝ }
-{
-    let mut starts = [0usize; 256];
-    let r = test_file(file, &mut starts);
-    if r != 0 {
-        return Answer::Refused(r);
-    }
-    let last = constraint_count(file) - 1;
-    let h = constraint::fingerprint(nodes_of(file), constraints_of(file), &starts, last);
-    Answer::Value(h as u64)
 }

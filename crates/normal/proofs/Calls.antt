@@ -9,19 +9,15 @@ use native.Mathlib.Omega.{arith}
 use borrow.Author.Tests.{lt-leb, le-leb}
 use lib.Dec.{leb}
 use lib.ListN.{length}
-use Rattle.tree.specs.Refusal.{_or-else_, _unless_}
-use Rattle.tree.specs.RefusalLaws.{none-both}
-use Rattle.tree.specs.Nodes.{nodesRefusal}
+use Rattle.record.specs.Leaving.{_leaving_}
+use Rattle.record.specs.Refusal.{_or-else_, _unless_}
 use Rattle.constraint.specs.declared.Record.{Record}
-use Rattle.constraint.specs.Constraint.{Constraint}
-use Rattle.constraint.specs.Records.{recordAt, finished}
-use Rattle.constraint.specs.Starts.{Ready}
-use Rattle.constraint.specs.RecordLaws.{one-left, root}
-use Rattle.file.specs.File.{isCounted, left, givenRefusal}
-use Rattle.normal.specs.NormalForm.{toNnf}
-use Rattle.normal.specs.Written.{numbers, recordsOf, nnfAt, Puts}
-use Rattle.normal.specs.Renaming.{height-renamed, renumbered}
-use Rattle.normal.specs.Given.{keptOf, countKept, _leaving_, nnfRecords, nnfRefusal, written, toNnfGiven}
+use Rattle.constraint.specs.Records.{recordAt}
+use Rattle.constraint.specs.Code.{Puts}
+use Rattle.file.specs.File.{givenRefusal}
+use Rattle.file.specs.FileLaws.{passed-given}
+use Rattle.normal.specs.Written.{nnfAt}
+use Rattle.normal.specs.Given.{keptOf, countKept, nnfRecords, nnfRefusal, written, toNnfGiven}
 use Rattle.normal.specs.Counting.{nnf-count}
 use Rattle.normal.specs.declared.Nnf.{Nnf}
 
@@ -47,23 +43,9 @@ module _ (nodes b out : List ℕ) where
   unfolding nnfRefusal
   records-refused r e h = refused r (nnfRecords b (length b / 24)) h ∙ by r (first-refusal (givenRefusal nodes b) _ r e h)
 
-  module _ (e : givenRefusal nodes b ≡ 0) (starts : List ℕ) (p : Ready nodes b (length b / 24) starts) where
-    one : length (finished nodes b (length b / 24)) ≡ 1
-    unfolding givenRefusal
-    one =
-        let w = none-both (2 unless isCounted nodes b) _ e in
-        one-left nodes (length nodes / 16) b (length b / 24) (none-both (nodesRefusal nodes (length nodes / 16)) _ (w .1) .1)
-
-    one-number : length (finished numbers b (length b / 24)) ≡ 1
-    one-number = sym (height-renamed nodes b (length b / 24) starts p (length b / 24) (omega arith)) ∙ one
-
-    pub records-are : nnfRecords b (length b / 24) ≡ nnfAt b (length b / 24 - 1)
-    unfolding nnfRecords nnfAt left
-    records-are = ap (λ (c : Constraint). recordsOf (toNnf c)) (root numbers b (length b / 24) one-number .1)
-
+  module _ (e : givenRefusal nodes b ≡ 0) where
     counted : length (nnfRecords b (length b / 24)) ≡ countKept b (length b / 24)
-    unfolding nnfRecords left
-    counted = nnf-count numbers b (length b / 24) starts (renumbered nodes b (length b / 24) starts p) one-number
+    counted = nnf-count (length nodes / 16) b (length b / 24) (passed-given nodes b e .2)
 
     refusal-is : nnfRefusal nodes b out ≡ 10 unless leb (24 * countKept b (length b / 24)) (length out)
     unfolding nnfRefusal
@@ -74,11 +56,11 @@ module _ (nodes b out : List ℕ) where
       too-short h = by 10 (refusal-is ∙ ap (λ (t : Bool). 10 unless t) (lt-leb (24 * countKept b (length b / 24)) (length out) (omega arith)))
 
       pub room : 24 * c ≤ length out → 24 * (0 + length (nnfAt b (length b / 24 - 1))) ≤ length out
-      room h = omega (arith, ap length records-are, counted)
+      unfolding nnfRecords nnfAt
+      room h = omega (arith, counted)
 
       pub wrote : {new : List ℕ} {n : ℕ} → 24 * c ≤ length out → Puts out new 0 n (nnfAt b (length b / 24 - 1)) → (Nnf.Records n leaving new) ≡ toNnfGiven nodes b out
-      unfolding toNnfGiven
+      unfolding nnfRecords nnfAt
       wrote h q =
           ap₂ (λ (n : ℕ) (l : List ℕ). Nnf.Records n leaving l) (q .counted ∙ zero-add _) (q .put)
-          ∙ ap (λ (rs : List Record). written 0 rs out) (sym records-are)
           ∙ by 0 (refusal-is ∙ ap (λ (t : Bool). 10 unless t) (le-leb (24 * countKept b (length b / 24)) (length out) (omega arith)))

@@ -1,135 +1,122 @@
--- The records of the normal form and of the negation of a constraint, by what its record says. Assumes nothing.
-use Prim.Native.Nat.{ℕ, _+_, _-_, _<_}
-use mathlib.Core.Path.{_≡_, sym, ap, _∙_}
-use mathlib.Core.List.{List, [], _∷_, _++_, append-assoc, append-nil}
+-- The records of the normal form and of the negation of what record k finishes, and of the last m that are finished before record n. Assumes nothing.
+use Prim.Native.Nat.{ℕ, _+_, _*_, _-_, _≤_, _<_}
+use mathlib.Core.Path.{_≡_, refl, sym, ap, _∙_, subst}
+use mathlib.Core.List.{List, [], _∷_, _++_}
 use native.Mathlib.Omega.{arith}
-use lib.Ieee.{Float}
-use lib.ListN.{getD}
-use Rattle.constraint.specs.declared.Relation.{Relation}
+use lib.ListN.{length, getD, length-append}
 use Rattle.constraint.specs.declared.Record.{Record}
-use Rattle.constraint.specs.Constraint.{Constraint}
-use Rattle.constraint.specs.Records.{recordAt, gather, constraintAt}
-use Rattle.constraint.specs.Starts.{upTo, Ready, Taken}
-use Rattle.constraint.specs.Fingerprint.{number}
-use Rattle.constraint.specs.RecordLaws.{number-gather, at-atom, atom-node, at-not, at-and, and-taken, at-or, or-taken, at-forall, forall-range, at-exists, exists-range, none-taken, few-taken, up-to}
-use Rattle.normal.specs.NormalForm.{oppositeOf, toNnf, negate, toNnfAll, negateAll}
-use Rattle.normal.specs.Written.{numbers, recordsOf, recordsOfAll, nnfAt, negationAt, nnfAll, negationAll}
-use Rattle.normal.specs.NumberLaws.{tells-it}
-use Rattle.normal.specs.Fitting.{number-nnf, number-negation}
+use Rattle.constraint.specs.Constraint.{Formula}
+use Rattle.constraint.specs.Records.{recordAt, takes, gather, finish, formulaAt}
+use Rattle.constraint.specs.Starts.{formulasTo, Ready, Taken}
+use Rattle.constraint.specs.Encoding.{recordsOf, recordsOfAll}
+use Rattle.constraint.specs.Code.{Writable, Puts}
+use Rattle.constraint.specs.PutLaws.{puts-is, puts-then}
+use Rattle.constraint.specs.RecordLaws.{formula-here, writable-here, taken-here, inside, formula-not, few-taken, no-formulas, formulas-to}
+use Rattle.normal.specs.NormalForm.{toNnf, negate, toNnfAll, negateAll}
+use Rattle.normal.specs.Written.{dualOf, nnfAt, negationAt, nnfAll, negationAll}
+use Rattle.normal.specs.WrittenLaws.{nnf-finish, negation-finish, nnf-snoc, negation-snoc}
+use Rattle.normal.specs.Given.{keptOf}
 
--- ---- record k
-module _ (b : List ℕ) (k : ℕ) (starts : List ℕ) (p : Ready numbers b (k + 1) starts) where
-  module _ (rel : Relation) (i : ℕ) (e : recordAt b k ≡ Record.Atom rel i) where
-    pub atom-small : i < 1024
-    atom-small = omega (arith, atom-node numbers b k starts p rel i e .few)
+-- ---- the records of a whole are those of a part, and then the rest
+pub record Ends (whole part rest : List Record) : Type 0 where
+  with : whole ≡ part ++ rest
 
-    pub nnf-atom : nnfAt b k ≡ Record.Atom rel i ∷ []
-    unfolding nnfAt recordsOf toNnf
-    nnf-atom = ap (λ (c : Constraint). recordsOf (toNnf c)) (at-atom numbers b k starts p rel i e) ∙ ap (λ (n : ℕ). Record.Atom rel n ∷ []) (tells-it i atom-small)
+module _ {whole part rest : List Record} (e : Ends whole part rest) where
+  pub ends-put : (b : List ℕ) {b₁ b₂ : List ℕ} (at : ℕ) {n m : ℕ} → Puts b b₁ at n part → Puts b₁ b₂ n m rest → Puts b b₂ at m whole
+  ends-put b at p q = puts-is (e .with) (puts-then b at part rest p q)
 
-    pub negation-atom : negationAt b k ≡ Record.Atom (oppositeOf rel) i ∷ []
-    unfolding negationAt recordsOf toNnf
-    negation-atom = ap (λ (c : Constraint). recordsOf (negate c)) (at-atom numbers b k starts p rel i e) ∙ ap (λ (n : ℕ). Record.Atom (oppositeOf rel) n ∷ []) (tells-it i atom-small)
+  -- room for the whole is room for each
+  module _ (at L : ℕ) (h : 24 * (at + length whole) ≤ L) where
+    both : length whole ≡ length part + length rest
+    both = ap length (e .with) ∙ length-append part rest
 
-  module _ (e : recordAt b k ≡ Record.Not) where
+    pub part-room : 24 * (at + length part) ≤ L
+    part-room = omega (arith, both)
+
+    pub rest-room : (next M : ℕ) → next ≡ at + length part → M ≡ L → 24 * (next + length rest) ≤ M
+    rest-room next M p q = omega (arith, both)
+
+-- ---- record k, as it was read
+is-not : (x : Record) → keptOf x ≡ 0 → Record.Not ≡ x
+is-not (Record.Atom rel i) z = absurd (omega arith)
+is-not Record.Not z = refl
+is-not (Record.And m) z = absurd (omega arith)
+is-not (Record.Or m) z = absurd (omega arith)
+is-not (Record.ForAll v lo hi) z = absurd (omega arith)
+is-not (Record.Exists v lo hi) z = absurd (omega arith)
+
+small-dual : (x : Record) → Writable 1024 x → Writable 1024 (dualOf x)
+small-dual (Record.Atom rel i) h = h
+small-dual Record.Not h = h
+small-dual (Record.And m) h = h
+small-dual (Record.Or m) h = h
+small-dual (Record.ForAll v lo hi) h = h
+small-dual (Record.Exists v lo hi) h = h
+
+module _ (nodes b : List ℕ) (k : ℕ) (starts : List ℕ) (p : Ready nodes b (k + 1) starts) (x : Record) (e : x ≡ recordAt b k) where
+  pub small : Writable 1024 x
+  small = writable-here nodes b k starts p x (sym e)
+
+  pub dual-small : (y : Record) → y ≡ dualOf x → Writable 1024 y
+  dual-small y f = subst (Writable 1024) (sym f) (small-dual x small)
+
+  module _ (m : ℕ) (t : m ≡ takes x) where
+    pub taken : Taken nodes b m k starts
+    taken = taken-here nodes b k starts p x (sym e) m t
+
+    -- it is no Not
+    module _ (h : keptOf x ≡ 0 → ⊥) where
+      formula : formulaAt b k ≡ finish x (formulasTo b m k)
+      formula = formula-here nodes b k starts p x (sym e) ∙ ap (λ (i : ℕ). finish x (formulasTo b i k)) (sym t)
+
+      as-many : length (formulasTo b m k) ≡ takes x
+      as-many = few-taken nodes b m k starts taken .1 ∙ t
+
+      pub nnf-ends : Ends (nnfAt b k) (nnfAll b m k) (x ∷ [])
+      unfolding nnfAt nnfAll
+      nnf-ends = record { with = ap (λ (c : Formula ℕ). recordsOf (toNnf c)) formula ∙ nnf-finish x (formulasTo b m k) as-many h }
+
+      pub negation-ends : Ends (negationAt b k) (negationAll b m k) (dualOf x ∷ [])
+      unfolding negationAt negationAll
+      negation-ends = record { with = ap (λ (c : Formula ℕ). recordsOf (negate c)) formula ∙ negation-finish x (formulasTo b m k) as-many h }
+
+  -- it is one
+  module _ (z : keptOf x ≡ 0) where
+    not : recordAt b k ≡ Record.Not
+    not = sym (is-not x z ∙ e)
+
+    pub under-not : (0 < k) × Ready nodes b (k - 1 + 1) starts
+    under-not = inside nodes b k starts p Record.Not not refl
+
     pub nnf-not : nnfAt b k ≡ negationAt b (k - 1)
     unfolding nnfAt negationAt toNnf
-    nnf-not = ap (λ (c : Constraint). recordsOf (toNnf c)) (at-not numbers b k starts p e)
+    nnf-not = ap (λ (c : Formula ℕ). recordsOf (toNnf c)) (formula-not nodes b k starts p not)
 
     pub negation-not : negationAt b k ≡ nnfAt b (k - 1)
     unfolding nnfAt negationAt toNnf
-    negation-not = ap (λ (c : Constraint). recordsOf (negate c)) (at-not numbers b k starts p e)
-
-  module _ (m : ℕ) (e : recordAt b k ≡ Record.And m) where
-    and-number : number (gather (upTo numbers b m k)) ≡ m
-    and-number = number-gather (upTo numbers b m k) ∙ few-taken numbers b m k starts (and-taken numbers b k starts p m e) .1
-
-    pub and-small : m < 1024
-    and-small = omega (arith, few-taken numbers b m k starts (and-taken numbers b k starts p m e) .0)
-
-    pub nnf-and : nnfAt b k ≡ nnfAll b m k ++ Record.And m ∷ []
-    unfolding nnfAt nnfAll recordsOf toNnf
-    nnf-and =
-        ap (λ (c : Constraint). recordsOf (toNnf c)) (at-and numbers b k starts p m e)
-        ∙ ap (λ (n : ℕ). nnfAll b m k ++ Record.And n ∷ []) (number-nnf (gather (upTo numbers b m k)) ∙ and-number)
-
-    pub negation-and : negationAt b k ≡ negationAll b m k ++ Record.Or m ∷ []
-    unfolding negationAt negationAll recordsOf toNnf
-    negation-and =
-        ap (λ (c : Constraint). recordsOf (negate c)) (at-and numbers b k starts p m e)
-        ∙ ap (λ (n : ℕ). negationAll b m k ++ Record.Or n ∷ []) (number-negation (gather (upTo numbers b m k)) ∙ and-number)
-
-  module _ (m : ℕ) (e : recordAt b k ≡ Record.Or m) where
-    or-number : number (gather (upTo numbers b m k)) ≡ m
-    or-number = number-gather (upTo numbers b m k) ∙ few-taken numbers b m k starts (or-taken numbers b k starts p m e) .1
-
-    pub or-small : m < 1024
-    or-small = omega (arith, few-taken numbers b m k starts (or-taken numbers b k starts p m e) .0)
-
-    pub nnf-or : nnfAt b k ≡ nnfAll b m k ++ Record.Or m ∷ []
-    unfolding nnfAt nnfAll recordsOf toNnf
-    nnf-or =
-        ap (λ (c : Constraint). recordsOf (toNnf c)) (at-or numbers b k starts p m e)
-        ∙ ap (λ (n : ℕ). nnfAll b m k ++ Record.Or n ∷ []) (number-nnf (gather (upTo numbers b m k)) ∙ or-number)
-
-    pub negation-or : negationAt b k ≡ negationAll b m k ++ Record.And m ∷ []
-    unfolding negationAt negationAll recordsOf toNnf
-    negation-or =
-        ap (λ (c : Constraint). recordsOf (negate c)) (at-or numbers b k starts p m e)
-        ∙ ap (λ (n : ℕ). negationAll b m k ++ Record.And n ∷ []) (number-negation (gather (upTo numbers b m k)) ∙ or-number)
-
-  module _ (v : ℕ) (lo hi : Float) where
-    pub forall-small : recordAt b k ≡ Record.ForAll v lo hi → v < 1024
-    forall-small e = omega (arith, forall-range numbers b k starts p v lo hi e .0)
-
-    pub exists-small : recordAt b k ≡ Record.Exists v lo hi → v < 1024
-    exists-small e = omega (arith, exists-range numbers b k starts p v lo hi e .0)
-
-    pub nnf-forall : recordAt b k ≡ Record.ForAll v lo hi → nnfAt b k ≡ nnfAt b (k - 1) ++ Record.ForAll v lo hi ∷ []
-    unfolding nnfAt recordsOf toNnf
-    nnf-forall e = ap (λ (c : Constraint). recordsOf (toNnf c)) (at-forall numbers b k starts p v lo hi e)
-
-    pub nnf-exists : recordAt b k ≡ Record.Exists v lo hi → nnfAt b k ≡ nnfAt b (k - 1) ++ Record.Exists v lo hi ∷ []
-    unfolding nnfAt recordsOf toNnf
-    nnf-exists e = ap (λ (c : Constraint). recordsOf (toNnf c)) (at-exists numbers b k starts p v lo hi e)
-
-    pub negation-forall : recordAt b k ≡ Record.ForAll v lo hi → negationAt b k ≡ negationAt b (k - 1) ++ Record.Exists v lo hi ∷ []
-    unfolding negationAt recordsOf toNnf
-    negation-forall e = ap (λ (c : Constraint). recordsOf (negate c)) (at-forall numbers b k starts p v lo hi e)
-
-    pub negation-exists : recordAt b k ≡ Record.Exists v lo hi → negationAt b k ≡ negationAt b (k - 1) ++ Record.ForAll v lo hi ∷ []
-    unfolding negationAt recordsOf toNnf
-    negation-exists e = ap (λ (c : Constraint). recordsOf (negate c)) (at-exists numbers b k starts p v lo hi e)
+    negation-not = ap (λ (c : Formula ℕ). recordsOf (negate c)) (formula-not nodes b k starts p not)
 
 -- ---- those that a record takes: all but the last, and the last
-nnf-snoc : (cs : List Constraint) (c : Constraint) → recordsOfAll (toNnfAll (gather (cs ++ c ∷ []))) ≡ recordsOfAll (toNnfAll (gather cs)) ++ recordsOf (toNnf c)
-unfolding recordsOf toNnf gather
-nnf-snoc [] c = append-nil (recordsOf (toNnf c))
-nnf-snoc (x ∷ cs) c = ap (λ (l : List Record). recordsOf (toNnf x) ++ l) (nnf-snoc cs c) ∙ sym (append-assoc (recordsOf (toNnf x)) (recordsOfAll (toNnfAll (gather cs))) (recordsOf (toNnf c)))
-
-negation-snoc : (cs : List Constraint) (c : Constraint) → recordsOfAll (negateAll (gather (cs ++ c ∷ []))) ≡ recordsOfAll (negateAll (gather cs)) ++ recordsOf (negate c)
-unfolding recordsOf toNnf gather
-negation-snoc [] c = append-nil (recordsOf (negate c))
-negation-snoc (x ∷ cs) c = ap (λ (l : List Record). recordsOf (negate x) ++ l) (negation-snoc cs c) ∙ sym (append-assoc (recordsOf (negate x)) (recordsOfAll (negateAll (gather cs))) (recordsOf (negate c)))
-
-module _ (b : List ℕ) (m n : ℕ) (starts : List ℕ) (q : Taken numbers b m n starts) where
+module _ (nodes b : List ℕ) (m n : ℕ) (starts : List ℕ) (q : Taken nodes b m n starts) where
   pub nnf-none : m ≡ 0 → nnfAll b m n ≡ []
   unfolding nnfAll recordsOf toNnf gather
-  nnf-none e = ap (λ (cs : List Constraint). recordsOfAll (toNnfAll (gather cs))) (none-taken numbers b m n starts q e)
+  nnf-none e = ap (λ (cs : List (Formula ℕ)). recordsOfAll (toNnfAll (gather cs))) (no-formulas nodes b m n starts q e)
 
   pub negation-none : m ≡ 0 → negationAll b m n ≡ []
   unfolding negationAll recordsOf toNnf gather
-  negation-none e = ap (λ (cs : List Constraint). recordsOfAll (negateAll (gather cs))) (none-taken numbers b m n starts q e)
+  negation-none e = ap (λ (cs : List (Formula ℕ)). recordsOfAll (negateAll (gather cs))) (no-formulas nodes b m n starts q e)
 
   module _ (h : m ≡ 0 → ⊥) (s : ℕ) (e : s ≡ getD starts (n - 1) 0) where
-    pub nnf-more : nnfAll b m n ≡ nnfAll b (m - 1) s ++ nnfAt b (n - 1)
+    pub nnf-more : Ends (nnfAll b m n) (nnfAll b (m - 1) s) (nnfAt b (n - 1))
     unfolding nnfAll nnfAt
-    nnf-more =
-        ap (λ (cs : List Constraint). recordsOfAll (toNnfAll (gather cs))) (up-to numbers b m n starts q h s e)
-        ∙ nnf-snoc (upTo numbers b (m - 1) s) (constraintAt numbers b (n - 1))
+    nnf-more = record {
+      with = ap (λ (cs : List (Formula ℕ)). recordsOfAll (toNnfAll (gather cs))) (formulas-to nodes b m n starts q h s e)
+          ∙ nnf-snoc (formulasTo b (m - 1) s) (formulaAt b (n - 1));
+    }
 
-    pub negation-more : negationAll b m n ≡ negationAll b (m - 1) s ++ negationAt b (n - 1)
+    pub negation-more : Ends (negationAll b m n) (negationAll b (m - 1) s) (negationAt b (n - 1))
     unfolding negationAll negationAt
-    negation-more =
-        ap (λ (cs : List Constraint). recordsOfAll (negateAll (gather cs))) (up-to numbers b m n starts q h s e)
-        ∙ negation-snoc (upTo numbers b (m - 1) s) (constraintAt numbers b (n - 1))
+    negation-more = record {
+      with = ap (λ (cs : List (Formula ℕ)). recordsOfAll (negateAll (gather cs))) (formulas-to nodes b m n starts q h s e)
+          ∙ negation-snoc (formulasTo b (m - 1) s) (formulaAt b (n - 1));
+    }

@@ -1,4 +1,3 @@
 -- Laws that several proofs cite.
-mod Putting
 mod Forms
 mod Calls

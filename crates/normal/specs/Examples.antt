@@ -6,17 +6,17 @@ use lib.Ieee.{Float, toBits}
 use lib.ListN.{replicate}
 use Rattle.number.specs.Notation.{bits}
 use Rattle.tree.specs.Tree.{Tree}
-use Rattle.tree.specs.Canonical.{nodesBytes}
+use Rattle.record.specs.Leaving.{_leaving_}
+use Rattle.tree.specs.Encoding.{nodesBytes}
 use Rattle.tree.specs.declared.Node.{Node}
 use Rattle.constraint.specs.declared.Relation.{Relation}
 use Rattle.constraint.specs.declared.Relation.the-variants.{EqZero, GtZero, LtZero, LeZero, NeZero}
 use Rattle.constraint.specs.declared.Record.{Record}
 use Rattle.constraint.specs.Constraint.{Constraint, Atom, Not, And, Or, ForAll, Exists, end, _⨾_}
-use Rattle.constraint.specs.Comparison.{recordBytes, recordsBytes}
+use Rattle.constraint.specs.Encoding.{recordBytes, recordsBytes}
 use Rattle.file.specs.Computing.{computing}
 use Rattle.normal.specs.NormalForm.{toNnf}
-use Rattle.normal.specs.Written.{numbers, recordsOf}
-use Rattle.normal.specs.Given.{_leaving_, nnfRecords, nnfRefusal, toNnfGiven}
+use Rattle.normal.specs.Given.{nnfRecords, nnfRefusal, toNnfGiven}
 use Rattle.normal.specs.declared.Nnf.{Nnf}
 
 abbrev atom : Relation → Constraint
@@ -44,10 +44,10 @@ abbrev given : List ℕ
 given = recordsBytes (Record.Atom GtZero 0 ∷ Record.Not ∷ [])
 
 one-record : toNnfGiven (nodesBytes (Node.Var 3 ∷ [])) given (replicate 25 7) ≡ (Nnf.Records 1 leaving recordBytes (Record.Atom LeZero 0) ++ 7 ∷ [])
-unfolding computing toNnf numbers recordsOf nnfRecords nnfRefusal toNnfGiven toBits
+unfolding computing toNnf nnfRecords nnfRefusal toNnfGiven toBits
 one-record = refl
 
 -- 23 bytes are too few
 too-short : toNnfGiven (nodesBytes (Node.Var 3 ∷ [])) given (replicate 23 7) ≡ (Nnf.Refused 10 leaving replicate 23 7)
-unfolding computing toNnf numbers recordsOf nnfRecords nnfRefusal toNnfGiven toBits
+unfolding computing toNnf nnfRecords nnfRefusal toNnfGiven toBits
 too-short = refl

@@ -1,16 +1,16 @@
 -- `to_nnf` on records that a caller gives: the refusals, and the answer with the output slice at exit.
-use Prim.Native.Nat.{ℕ, zero, suc, _+_, _*_, _/_}
+use Prim.Native.Nat.{ℕ, zero, suc, _+_, _*_, _-_, _/_}
 use mathlib.Core.List.{List}
 use lib.Dec.{leb}
 use lib.ListN.{length}
 use lib.Seq.{sets}
-use Rattle.tree.specs.Refusal.{_or-else_, _unless_}
+use Rattle.record.specs.Leaving.{Leaving, _leaving_}
+use Rattle.record.specs.Refusal.{_or-else_, _unless_}
 use Rattle.constraint.specs.declared.Record.{Record}
-use Rattle.constraint.specs.Records.{recordAt}
-use Rattle.constraint.specs.Comparison.{recordsBytes}
-use Rattle.file.specs.File.{left, givenRefusal}
+use Rattle.constraint.specs.Records.{recordAt, formulaAt}
+use Rattle.constraint.specs.Encoding.{recordsBytes, recordsOf}
+use Rattle.file.specs.File.{givenRefusal}
 use Rattle.normal.specs.NormalForm.{toNnf}
-use Rattle.normal.specs.Written.{numbers, recordsOf}
 use Rattle.normal.specs.declared.Nnf.{Nnf}
 
 -- how many records are no Not
@@ -26,23 +26,18 @@ unfoldable pub countKept : List ℕ → ℕ → ℕ
 countKept b zero = 0
 countKept b (suc k) = countKept b k + keptOf (recordAt b k)
 
--- ---- the answer, and the output at exit
-infix 20 _leaving_
-pub data Outcome : Type 0 where
-  _leaving_ : Nnf → List ℕ → Outcome
-
--- the records of the normal form of the constraint that n records leave
+-- the records of the normal form of what n records leave
 unfoldable pub nnfRecords : List ℕ → ℕ → List Record
-nnfRecords b n = recordsOf (toNnf (left numbers b n))
+nnfRecords b n = recordsOf (toNnf (formulaAt b (n - 1)))
 
 -- 2 to 7 for the records; 10 where the output slice is too short
 unfoldable pub nnfRefusal : List ℕ → List ℕ → List ℕ → ℕ
 nnfRefusal nodes b out = givenRefusal nodes b or-else 10 unless leb (24 * length (nnfRecords b (length b / 24))) (length out)
 
--- a refusal alters nothing; else the number of records, written from the start, and the places past the last one stay
-abbrev pub written : ℕ → List Record → List ℕ → Outcome
+-- the answer, and the output at exit: a refusal alters nothing; else the number of records, written from the start, and the places past the last one stay
+abbrev pub written : ℕ → List Record → List ℕ → Leaving Nnf (List ℕ)
 written (suc r) rs out = Nnf.Refused (suc r) leaving out
 written zero rs out = Nnf.Records (length rs) leaving sets out 0 (recordsBytes rs)
 
-unfoldable pub toNnfGiven : List ℕ → List ℕ → List ℕ → Outcome
+unfoldable pub toNnfGiven : List ℕ → List ℕ → List ℕ → Leaving Nnf (List ℕ)
 toNnfGiven nodes b out = written (nnfRefusal nodes b out) (nnfRecords b (length b / 24)) out

@@ -1,10 +1,8 @@
 pub mod NormalForm
+pub mod NormalLaws
 pub mod Written
-pub mod NumberLaws
-pub mod Renaming
 pub mod Given
+pub mod WrittenLaws
 pub mod Counting
-pub mod Fitting
-pub mod Passing
 pub mod ReadBack
 pub mod Examples

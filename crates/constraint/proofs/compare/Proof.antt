@@ -3,6 +3,7 @@ use mathlib.Core.Path.{sym, _∙_}
 use native.Mathlib.Omega.{arith}
 use borrow.Author.Needs.{needs}
 use Rattle.tree.specs.CanonicalLaws.{sub-accepted}
+use Rattle.constraint.specs.PutLaws.{puts-alone}
 use Rattle.constraint.proofs.Outcomes.{as-sub, short, done}
 use Rattle.constraint.proofs.compare.Statement.{statement}
 use Rattle.constraint.proofs.compare.Tie as tie
@@ -18,29 +19,23 @@ write-sub-requires c κs =
     let w = sub-accepted _ _ _ _ (sym (c .before .before .before .sub-refusal .ensures) ∙ c .before .before .if1 .left) in
     (w .2 .few, w .2 .there, w .0, w .1)
 
-add-write-atom : tie.Need-add-write-atom
-add-write-atom c =
-    let at6 = c .before .before .before .before .before .before in
-    let w = sub-accepted _ _ _ _ (sym (at6 .before .sub-refusal .ensures) ∙ at6 .if1 .left) in
+add-result : tie.Need-add-result
+add-result c =
+    let at5 = c .before .before .before .before .before in
+    let w = sub-accepted _ _ _ _ (sym (at5 .before .sub-refusal .ensures) ∙ at5 .if1 .left) in
     omega arith
 
-write-atom-requires : tie.Need-write-atom-requires
-write-atom-requires c κs =
+write-record-requires : tie.Need-write-record-requires
+write-record-requires c κs =
     let at5 = c .before .before .before .before .before in
     let w = sub-accepted _ _ _ _ (sym (at5 .before .before .sub-refusal .ensures) ∙ at5 .before .if1 .left) in
-    (at5 .if2 .left, omega arith)
-
-add-t11 : tie.Need-add-t11
-add-t11 c =
-    let at9 = c .before .before .before .before .before .before .before .before .before in
-    let w = sub-accepted _ _ _ _ (sym (at9 .before .sub-refusal .ensures) ∙ at9 .if1 .left) in
-    omega arith
+    (omega arith, at5 .if2 .left)
 
 returns-3 : tie.Need-returns-3
 returns-3 c =
     let at6 = c .before .before .before .before .before .before in
     let at10 = at6 .before .before .before .before in
-    done _ _ _ _ _ _ (sym (at10 .sub-refusal .ensures) ∙ at6 .before .before .before .if1 .left) _ _ (at6 .before .before .if2 .left) (at6 .write-sub .ensures) (c .before .before .write-atom .ensures)
+    done _ _ _ _ _ _ (sym (at10 .sub-refusal .ensures) ∙ at6 .before .before .before .if1 .left) _ _ (at6 .before .before .if2 .left) (at6 .write-sub .ensures) (puts-alone (c .before .before .write-record .ensures))
 
 pub compare-spec : {M : Type 1} → statement M
 compare-spec =
@@ -52,9 +47,8 @@ compare-spec =
     (λ c. search needs)
     returns-2
     write-sub-requires
-    add-write-atom
-    write-atom-requires
-    add-t11
+    add-result
+    write-record-requires
     (λ c. search needs)
     (λ c. search needs)
     returns-3)

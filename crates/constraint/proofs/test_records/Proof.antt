@@ -1,15 +1,14 @@
--- `constraint::test_records` meets its contract: the stack holds the depths, the quantifiers and the starts of the finished constraints, and no record passed is refused, whatever the nodes say. Assumes nothing.
-use Prim.Native.Nat.{ℕ, _-_, _≤_}
-use mathlib.Core.List.{List}
+-- `constraint::test_records` meets its contract: the stack holds the depths, the quantifiers and the starts of the finished constraints, and no record passed is refused. Assumes nothing.
+use Prim.Native.Nat.{_-_, _≤_}
 use mathlib.Core.Path.{_≡_, refl, sym, ap, _∙_}
 use native.Mathlib.Omega.{arith}
 use borrow.Author.Tests.{not-true, not-false}
 use denote.Ref.{now}
 use lib.ListN.{length, length-set}
 use Rattle.constraint.specs.Starts.{begun}
-use Rattle.constraint.specs.Records.{takes, finished, constraintAt}
+use Rattle.constraint.specs.Records.{takes, finished, formulaAt}
 use Rattle.constraint.specs.Constraint.{levels, quantifiers}
-use Rattle.tree.specs.Refusal.{first, filled}
+use Rattle.record.specs.Refusal.{first, filled}
 use Rattle.constraint.proofs.Stack.{Stacked, Begun, five-record, five-few, six, seven-depth, seven-quant, depth-told, quant-told, stacked, start-told, begins, stop, one-left, not-one}
 use Rattle.constraint.proofs.test_records.Statement.{statement}
 use Rattle.constraint.proofs.test_records.Tie as tie
@@ -18,29 +17,29 @@ abbrev Inv-loop : tie.InvT-loop
 Inv-loop count constraints n starts₀ depth₀ quantifiers₀ begins₀ top₀ k₀ starts depth quantifiers begins top k =
     (k ≤ n) × (top ≤ k) × (length depth ≡ 256) × (length quantifiers ≡ 256) × (length begins ≡ 256) × (length starts ≡ 256)
     × Begun constraints k top begins starts₀ starts
-    × ((nodes : List ℕ) → Stacked nodes count constraints k top depth quantifiers)
+    × Stacked count constraints k top depth quantifiers
 
 abbrev μ-loop : tie.MeasureT-loop
 μ-loop count constraints n starts₀ depth₀ quantifiers₀ begins₀ top₀ k₀ starts depth quantifiers begins top k =
     n - k
 
 -- what `nesting_of` tells of the constraint that record k finishes
-module _ (c : tie.After-nesting-of Inv-loop μ-loop) (nodes : List ℕ) where
+module _ (c : tie.After-nesting-of Inv-loop μ-loop) where
   depth-is : let at11 = c .before .before .before .before .before .before .before .before .before .before .before in
-      c .nesting-of .result .depth ≡ levels (constraintAt nodes (now (at11 .before .before .args .constraints)) (at11 .loop .k))
+      c .nesting-of .result .depth ≡ levels (formulaAt (now (at11 .before .before .args .constraints)) (at11 .loop .k))
   depth-is =
       let at5 = c .before .before .before .before .before in
       let at9 = at5 .before .before .before .before in
       c .nesting-of .ensures .0
-      ∙ depth-told nodes _ _ _ _ _ _ (at9 .before .before .loop .inv .7 nodes) (sym (at9 .is-record .ensures) ∙ not-false _ (at5 .before .before .before .if1 .left)) _ (at5 .before .before .record-in .ensures) _ (at5 .before .taken-by .ensures) (at5 .if2 .left)
+      ∙ depth-told _ _ _ _ _ _ (at9 .before .before .loop .inv .7) (sym (at9 .is-record .ensures) ∙ not-false _ (at5 .before .before .before .if1 .left)) _ (at5 .before .before .record-in .ensures) _ (at5 .before .taken-by .ensures) (at5 .if2 .left)
 
   quant-is : let at11 = c .before .before .before .before .before .before .before .before .before .before .before in
-      c .nesting-of .result .quantifiers ≡ quantifiers (constraintAt nodes (now (at11 .before .before .args .constraints)) (at11 .loop .k))
+      c .nesting-of .result .quantifiers ≡ quantifiers (formulaAt (now (at11 .before .before .args .constraints)) (at11 .loop .k))
   quant-is =
       let at5 = c .before .before .before .before .before in
       let at9 = at5 .before .before .before .before in
       c .nesting-of .ensures .1
-      ∙ quant-told nodes _ _ _ _ _ _ (at9 .before .before .loop .inv .7 nodes) (sym (at9 .is-record .ensures) ∙ not-false _ (at5 .before .before .before .if1 .left)) _ (at5 .before .before .record-in .ensures) _ (at5 .before .taken-by .ensures) (at5 .if2 .left)
+      ∙ quant-told _ _ _ _ _ _ (at9 .before .before .loop .inv .7) (sym (at9 .is-record .ensures) ∙ not-false _ (at5 .before .before .before .if1 .left)) _ (at5 .before .before .record-in .ensures) _ (at5 .before .taken-by .ensures) (at5 .if2 .left)
 
 loop-holds : tie.Need-loop-holds Inv-loop μ-loop
 unfolding first filled finished begun
@@ -52,13 +51,14 @@ loop-holds c = (
   refl,
   omega arith,
   record { firsts = refl; started = refl },
-  (λ nodes. record { none-yet = refl; height = refl; depths = refl; quants = refl }),
+  record { none-yet = refl; height = refl; depths = refl; quants = refl },
 )
 
 returns : tie.Need-returns Inv-loop μ-loop
 returns c =
     let at3 = c .before .before .before in
-    stop _ _ _ _ _ _ _ _ _ _ (at3 .loop .inv .6) (at3 .loop .inv .7) 4 (c .before .before .loop-test .taken) (λ nodes. five-record nodes _ _ _ _ _ _ (at3 .loop .inv .7 nodes) (sym (c .before .is-record .ensures) ∙ not-true _ (c .if1 .taken)))
+    stop _ _ _ _ _ _ _ _ _ _ (at3 .loop .inv .6) (at3 .loop .inv .7) 4 (c .before .before .loop-test .taken)
+    (five-record _ _ _ _ _ _ (at3 .loop .inv .7) (sym (c .before .is-record .ensures) ∙ not-true _ (c .if1 .taken)))
 
 returns-2 : tie.Need-returns-2 Inv-loop μ-loop
 returns-2 c =
@@ -68,7 +68,9 @@ returns-2 c =
     let p₄ = p₃ .before in
     let at4 = p₄ in
     let at6 = at4 .before .before in
-    stop _ _ _ _ _ _ _ _ _ _ (at6 .loop .inv .6) (at6 .loop .inv .7) 4 (at4 .before .loop-test .taken) (λ nodes. five-few nodes _ _ _ _ _ _ (at6 .loop .inv .7 nodes) (sym (at4 .is-record .ensures) ∙ not-false _ (p₃ .if1 .left)) _ (p₂ .record-in .ensures) _ (p₁ .taken-by .ensures) (c .if2 .taken))
+    let is = sym (at4 .is-record .ensures) ∙ not-false _ (p₃ .if1 .left) in
+    stop _ _ _ _ _ _ _ _ _ _ (at6 .loop .inv .6) (at6 .loop .inv .7) 4 (at4 .before .loop-test .taken)
+    (five-few _ _ _ _ _ _ (at6 .loop .inv .7) is _ (p₂ .record-in .ensures) _ (p₁ .taken-by .ensures) (c .if2 .taken))
 
 returns-3 : tie.Need-returns-3 Inv-loop μ-loop
 returns-3 c =
@@ -78,14 +80,18 @@ returns-3 c =
     let p₄ = p₃ .before in
     let at4 = p₄ in
     let at8 = at4 .before .before .before .before in
-    stop _ _ _ _ _ _ _ _ _ _ (at8 .loop .inv .6) (at8 .loop .inv .7) 5 (at4 .before .before .before .loop-test .taken) (λ nodes. six nodes _ _ _ _ _ _ (at8 .loop .inv .7 nodes) (sym (at4 .before .before .is-record .ensures) ∙ not-false _ (at4 .before .if1 .left)) _ (at4 .record-in .ensures) _ (p₃ .taken-by .ensures) (p₂ .if2 .left) (sym (p₁ .is-ranged .ensures) ∙ not-true _ (c .if3 .taken)))
+    let is = sym (at4 .before .before .is-record .ensures) ∙ not-false _ (at4 .before .if1 .left) in
+    stop _ _ _ _ _ _ _ _ _ _ (at8 .loop .inv .6) (at8 .loop .inv .7) 5 (at4 .before .before .before .loop-test .taken)
+    (six _ _ _ _ _ _ (at8 .loop .inv .7) is _ (at4 .record-in .ensures) _ (p₃ .taken-by .ensures) (p₂ .if2 .left) (sym (p₁ .is-ranged .ensures) ∙ not-true _ (c .if3 .taken)))
 
 returns-4 : tie.Need-returns-4 Inv-loop μ-loop
 returns-4 c =
     let at5 = c .before .before .before .before .before in
     let at9 = at5 .before .before .before .before in
     let at13 = at9 .before .before .before .before in
-    stop _ _ _ _ _ _ _ _ _ _ (at13 .loop .inv .6) (at13 .loop .inv .7) 6 (at9 .before .before .before .loop-test .taken) (λ nodes. seven-depth nodes _ _ _ _ _ _ (at13 .loop .inv .7 nodes) (sym (at9 .before .before .is-record .ensures) ∙ not-false _ (at9 .before .if1 .left)) _ (at9 .record-in .ensures) _ (at5 .before .before .before .taken-by .ensures) (at5 .before .before .if2 .left) (sym (at5 .before .is-ranged .ensures) ∙ not-false _ (at5 .if3 .left)) (omega (arith, depth-is (c .before .before) nodes)))
+    let is = sym (at9 .before .before .is-record .ensures) ∙ not-false _ (at9 .before .if1 .left) in
+    stop _ _ _ _ _ _ _ _ _ _ (at13 .loop .inv .6) (at13 .loop .inv .7) 6 (at9 .before .before .before .loop-test .taken)
+    (seven-depth _ _ _ _ _ _ (at13 .loop .inv .7) is _ (at9 .record-in .ensures) _ (at5 .before .before .before .taken-by .ensures) (at5 .before .before .if2 .left) (sym (at5 .before .is-ranged .ensures) ∙ not-false _ (at5 .if3 .left)) (omega (arith, depth-is (c .before .before))))
 
 returns-5 : tie.Need-returns-5 Inv-loop μ-loop
 returns-5 c =
@@ -93,7 +99,10 @@ returns-5 c =
     let at8 = at4 .before .before .before .before in
     let at12 = at8 .before .before .before .before in
     let at15 = at12 .before .before .before in
-    stop _ _ _ _ _ _ _ _ _ _ (at15 .loop .inv .6) (at15 .loop .inv .7) 6 (at12 .before .before .loop-test .taken) (λ nodes. seven-quant nodes _ _ _ _ _ _ (at15 .loop .inv .7 nodes) (sym (at12 .before .is-record .ensures) ∙ not-false _ (at12 .if1 .left)) _ (at8 .before .before .before .record-in .ensures) _ (at8 .before .before .taken-by .ensures) (at8 .before .if2 .left) (sym (at8 .is-ranged .ensures) ∙ not-false _ (at4 .before .before .before .if3 .left)) (omega (arith, depth-is (at4) nodes)) (omega (arith, quant-is (at4) nodes)))
+    let is = sym (at12 .before .is-record .ensures) ∙ not-false _ (at12 .if1 .left) in
+    stop _ _ _ _ _ _ _ _ _ _ (at15 .loop .inv .6) (at15 .loop .inv .7) 6 (at12 .before .before .loop-test .taken)
+    (seven-quant _ _ _ _ _ _ (at15 .loop .inv .7) is _ (at8 .before .before .before .record-in .ensures) _ (at8 .before .before .taken-by .ensures) (at8 .before .if2 .left)
+    (sym (at8 .is-ranged .ensures) ∙ not-false _ (at4 .before .before .before .if3 .left)) (omega (arith, depth-is at4)) (omega (arith, quant-is at4)))
 
 loop-again : tie.Need-loop-again Inv-loop μ-loop
 loop-again c =
@@ -106,6 +115,7 @@ loop-again c =
     let at19 = at15 .before .before .before .before in
     let v = at19 .loop .inv in
     let im = at14 .taken-by .ensures ∙ ap takes (at15 .record-in .ensures) in
+    let is = sym (at15 .before .before .is-record .ensures) ∙ not-false _ (at15 .before .if1 .left) in
     let s = c .before .before .first-of .ensures .0 ∙ start-told _ _ _ _ _ _ (v .6) _ im (omega arith) (v .4) in (
       omega arith,
       omega arith,
@@ -114,7 +124,8 @@ loop-again c =
       length-set (at19 .loop .begins) _ _ ∙ v .4,
       length-set (at19 .loop .starts) _ _ ∙ v .5,
       begins _ _ _ _ _ _ (v .6) _ im (omega arith) (v .4) _ s (at13 .if2 .left) (omega arith),
-      (λ nodes. stacked nodes _ _ _ _ _ _ (at19 .loop .inv .7 nodes) (sym (at15 .before .before .is-record .ensures) ∙ not-false _ (at15 .before .if1 .left)) _ (at15 .record-in .ensures) _ (at14 .taken-by .ensures) (at13 .if2 .left) _ _ (sym (at12 .is-ranged .ensures) ∙ not-false _ (at8 .before .before .before .if3 .left)) (depth-is (at8) nodes) (quant-is (at8) nodes) (at4 .before .before .if4 .left) (at4 .if5 .left) (omega arith) (v .2) (v .3)),
+      stacked _ _ _ _ _ _ (at19 .loop .inv .7) is _ (at15 .record-in .ensures) _ (at14 .taken-by .ensures) (at13 .if2 .left) _ _
+          (sym (at12 .is-ranged .ensures) ∙ not-false _ (at8 .before .before .before .if3 .left)) (depth-is at8) (quant-is at8) (at4 .before .before .if4 .left) (at4 .if5 .left) (omega arith) (v .2) (v .3),
     )
 
 returns-6 : tie.Need-returns-6 Inv-loop μ-loop

@@ -28,7 +28,8 @@ returns-2 : tie.Need-returns-2
 returns-2 c =
     let at4 = c .before .before .before .before in
     let at8 = at4 .before .before .before .before in
-    body-records _ _ (at8 .before .before .pre .0) _ _ (at4 .before .before .before .nodes-of .ensures) (at8 .node-count .ensures) _ (at4 .before .before .test-list .ensures) (at4 .before .if1 .left) _ _ (c .before .before .before .constraints-of .ensures) (at4 .constraint-count .ensures) _ _ (c .before .test-records .ensures .0) (c .before .test-records .ensures .1) (c .if2 .taken)
+    body-records _ _ (at8 .before .before .pre .0) _ _ (at4 .before .before .before .nodes-of .ensures) (at8 .node-count .ensures) _ (at4 .before .before .test-list .ensures) (at4 .before .if1 .left)
+    _ _ (c .before .before .before .constraints-of .ensures) (at4 .constraint-count .ensures) _ _ (c .before .test-records .ensures .0) (c .before .test-records .ensures .1) (c .if2 .taken)
 
 test-bounds-requires : tie.Need-test-bounds-requires
 test-bounds-requires c κs =
@@ -46,7 +47,8 @@ returns-3 c =
     let at4 = p₄ in
     let at8 = at4 .before .before .before .before in
     let at13 = at8 .before .before .before .before .before in
-    body-bounds _ _ (at13 .pre .0) _ _ (at8 .before .before .nodes-of .ensures) (at8 .before .before .before .node-count .ensures) _ (at8 .before .test-list .ensures) (at8 .if1 .left) _ _ (at4 .before .before .constraints-of .ensures) (at4 .before .before .before .constraint-count .ensures) _ _ (at4 .test-records .ensures .0) (at4 .test-records .ensures .1) (p₃ .if2 .left) _ _ _ (p₂ .bounds-of .ensures) (p₁ .bound-count .ensures) (c .test-bounds .ensures)
+    body-bounds _ _ (at13 .pre .0) _ _ (at8 .before .before .nodes-of .ensures) (at8 .before .before .before .node-count .ensures) _ (at8 .before .test-list .ensures) (at8 .if1 .left)
+    _ _ (at4 .before .before .constraints-of .ensures) (at4 .before .before .before .constraint-count .ensures) _ _ (at4 .test-records .ensures .0) (at4 .test-records .ensures .1) (p₃ .if2 .left) _ _ _ (p₂ .bounds-of .ensures) (p₁ .bound-count .ensures) (c .test-bounds .ensures)
 
 pub test-bodies-spec : {M : Type 1} → statement M
 test-bodies-spec =

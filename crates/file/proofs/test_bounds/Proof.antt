@@ -6,10 +6,10 @@ use native.Mathlib.Nat.{le-antisymm}
 use borrow.Author.Tests.{not-true, not-false}
 use lib.Ieee.{binary64}
 use Rattle.file.specs.File.{boundRefusal}
-use Rattle.tree.specs.RefusalLaws.{none-more, first-here}
-use Rattle.tree.specs.Refusal.{first}
+use Rattle.record.specs.RefusalLaws.{none-more, first-here}
+use Rattle.record.specs.Refusal.{first}
 use Rattle.interval.specs.declared.Interval.{Interval}
-use Rattle.number.specs.Halving.{sound}
+use Rattle.number.specs.Sound.{sound}
 use Rattle.file.proofs.test_bounds.Statement.{statement}
 use Rattle.file.proofs.test_bounds.Tie as tie
 

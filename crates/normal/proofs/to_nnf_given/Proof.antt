@@ -8,7 +8,6 @@ use native.Mathlib.Omega.{arith}
 use lib.ListN.{length}
 use denote.Ref.{now}
 use Rattle.file.specs.FileLaws.{some-given, given-ready}
-use Rattle.normal.specs.Renaming.{renumbered}
 use Rattle.normal.specs.Counting.{kept-few}
 use Rattle.normal.proofs.Calls.{records-refused, too-short, room, wrote}
 
@@ -29,8 +28,7 @@ returns-2 : tie.Need-returns-2
 returns-2 c =
     let p₁ = c .before in
     let p₂ = p₁ .before in
-    let p₃ = p₂ .before in
-    too-short _ _ _ (sym (p₃ .test-given .ensures .0) ∙ p₂ .if1 .left) _ (given-ready _ _ (sym (p₃ .test-given .ensures .0) ∙ p₂ .if1 .left) _ _ refl (p₃ .test-given .ensures .1)) (p₁ .count-kept .ensures) (c .if2 .taken)
+    too-short _ _ _ (sym (p₂ .before .test-given .ensures .0) ∙ p₂ .if1 .left) (p₁ .count-kept .ensures) (c .if2 .taken)
 
 sub-to-nnf : tie.Need-sub-to-nnf
 sub-to-nnf c =
@@ -45,7 +43,9 @@ to-nnf-requires c κs =
     let p₃ = p₂ .before in
     let p₄ = p₃ .before in
     let s = p₄ .before .before .before .before .before in
-    let g = some-given _ _ (sym (p₄ .test-given .ensures .0) ∙ p₃ .if1 .left) in let e : length (now (s .args .constraints)) / 24 - 1 + 1 ≡ length (now (s .args .constraints)) / 24 = omega arith in (rw e (renumbered _ _ _ _ (given-ready _ _ (sym (p₄ .test-given .ensures .0) ∙ p₃ .if1 .left) _ _ refl (p₄ .test-given .ensures .1))), room _ _ (now (s .args .out)) (sym (p₄ .test-given .ensures .0) ∙ p₃ .if1 .left) _ (given-ready _ _ (sym (p₄ .test-given .ensures .0) ∙ p₃ .if1 .left) _ _ refl (p₄ .test-given .ensures .1)) (p₂ .count-kept .ensures) (p₁ .if2 .left))
+    let e = sym (p₄ .test-given .ensures .0) ∙ p₃ .if1 .left in
+    let n : length (now (s .args .constraints)) / 24 - 1 + 1 ≡ length (now (s .args .constraints)) / 24 = omega (arith, some-given _ _ e) in
+    ((now (s .args .nodes), rw n (given-ready _ _ e _ _ refl (p₄ .test-given .ensures .1))), room _ _ (now (s .args .out)) e (p₂ .count-kept .ensures) (p₁ .if2 .left))
 
 returns-3 : tie.Need-returns-3
 returns-3 c =
@@ -53,8 +53,7 @@ returns-3 c =
     let p₂ = p₁ .before .before .before in
     let p₃ = p₂ .before in
     let p₄ = p₃ .before in
-    let p₅ = p₄ .before in
-    wrote _ _ _ (sym (p₅ .test-given .ensures .0) ∙ p₄ .if1 .left) _ (given-ready _ _ (sym (p₅ .test-given .ensures .0) ∙ p₄ .if1 .left) _ _ refl (p₅ .test-given .ensures .1)) (p₃ .count-kept .ensures) (p₂ .if2 .left) (p₁ .to-nnf .ensures)
+    wrote _ _ _ (sym (p₄ .before .test-given .ensures .0) ∙ p₄ .if1 .left) (p₃ .count-kept .ensures) (p₂ .if2 .left) (p₁ .to-nnf .ensures)
 
 pub to-nnf-given-spec : {M : Type 1} → statement M
 to-nnf-given-spec =

@@ -1,8 +1,8 @@
--- `normal::write_words` meets its contract. Assumes nothing.
+-- `constraint::write_words` meets its contract. Assumes nothing.
 use borrow.Author.Needs.{needs}
-use Rattle.normal.proofs.write_words.Statement.{statement}
-use Rattle.normal.proofs.write_words.Tie as tie
-use Rattle.normal.proofs.Putting.{record-words}
+use Rattle.constraint.proofs.write_words.Statement.{statement}
+use Rattle.constraint.proofs.write_words.Tie as tie
+use Rattle.constraint.proofs.Putting.{record-words}
 
 returns : tie.Need-returns
 returns c =

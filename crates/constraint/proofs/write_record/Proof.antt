@@ -1,41 +1,41 @@
--- `normal::write_record` meets its contract. Assumes nothing.
+-- `constraint::write_record` meets its contract. Assumes nothing.
 use borrow.Author.Needs.{needs}
-use Rattle.normal.proofs.write_record.Statement.{statement}
-use Rattle.normal.proofs.write_record.Tie as tie
+use Rattle.constraint.proofs.write_record.Statement.{statement}
+use Rattle.constraint.proofs.write_record.Tie as tie
 use mathlib.Core.Path.{subst}
 use native.Mathlib.Omega.{arith}
-use Rattle.normal.proofs.Putting.{puts-atom, puts-not, puts-and, puts-or, puts-forall, puts-exists}
-use Rattle.normal.specs.Written.{Small}
+use Rattle.constraint.proofs.Putting.{puts-atom, puts-not, puts-and, puts-or, puts-forall, puts-exists}
+use Rattle.constraint.specs.Code.{Writable}
 
 cast-write-words : tie.Need-cast-write-words
 cast-write-words c =
     let p₁ = c .before .before .before in
     let s = p₁ .before .before .before in
-    omega (arith, subst Small (p₁ .r .given .1) (s .pre .0))
+    omega (arith, subst (Writable 1024) (p₁ .r .given .1) (s .pre .0))
 
 cast-write-words-2 : tie.Need-cast-write-words-2
 cast-write-words-2 c =
     let p₁ = c .before .before in
     let s = p₁ .before .before .before in
-    omega (arith, subst Small (p₁ .r2 .given .1) (s .pre .0))
+    omega (arith, subst (Writable 1024) (p₁ .r2 .given .1) (s .pre .0))
 
 cast-write-words-3 : tie.Need-cast-write-words-3
 cast-write-words-3 c =
     let p₁ = c .before .before in
     let s = p₁ .before .before .before in
-    omega (arith, subst Small (p₁ .r3 .given .1) (s .pre .0))
+    omega (arith, subst (Writable 1024) (p₁ .r3 .given .1) (s .pre .0))
 
 cast-write-words-4 : tie.Need-cast-write-words-4
 cast-write-words-4 c =
     let p₁ = c .before .before .before .before in
     let s = p₁ .before .before .before in
-    omega (arith, subst Small (p₁ .r4 .given .1) (s .pre .0))
+    omega (arith, subst (Writable 1024) (p₁ .r4 .given .1) (s .pre .0) .0)
 
 cast-write-words-5 : tie.Need-cast-write-words-5
 cast-write-words-5 c =
     let p₁ = c .before .before .before .before in
     let s = p₁ .before .before .before in
-    omega (arith, subst Small (p₁ .r5 .given .1) (s .pre .0))
+    omega (arith, subst (Writable 1024) (p₁ .r5 .given .1) (s .pre .0) .0)
 
 returns : tie.Need-returns
 returns c =

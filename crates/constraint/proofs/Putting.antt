@@ -1,25 +1,16 @@
--- Records put one after the other. Assumes nothing.
-use Prim.Native.Nat.{ℕ, _+_, _*_, _/_, _%_, _^_}
-use mathlib.Core.Path.{_≡_, refl, sym, ap, ap₂, _∙_}
-use mathlib.Core.List.{List, [], _∷_, _++_, append-assoc, append-nil}
-use native.Mathlib.Nat.{add-zero}
-use native.Mathlib.Omega.{arith}
+-- A record, from the words that are written. Assumes nothing.
+use Prim.Native.Nat.{ℕ, _+_, _*_}
+use mathlib.Core.Path.{_≡_, refl, ap, ap₂, _∙_}
+use mathlib.Core.List.{List, [], _∷_, _++_}
 use lib.Ieee.{Float, binary64, toBits}
-use lib.ListN.{length-append}
 use lib.Seq.{sets}
-use Rattle.tree.specs.Bytes.{u32Bytes, u64Bytes}
-use Rattle.tree.specs.Writing.{then-bytes}
-use Rattle.constraint.specs.declared.Record.{Record}
+use Rattle.record.specs.Bytes.{u32Bytes, u64Bytes}
+use Rattle.record.specs.ByteLaws.{then-bytes}
+use Rattle.constraint.specs.Encoding.{kindOf, recordBytes}
+use Rattle.constraint.specs.Code.{Puts}
+use Rattle.constraint.specs.PutLaws.{puts-one}
 use Rattle.constraint.specs.declared.Relation.{Relation}
-use Rattle.constraint.specs.Fingerprint.{kindOf}
-use Rattle.constraint.specs.Comparison.{recordBytes, recordsBytes}
-use Rattle.constraint.specs.Writing.{length-records}
-use Rattle.normal.specs.Written.{Puts}
-
--- ---- words
-pub two-words : (b : List ℕ) {b₁ b₂ : List ℕ} (at n : ℕ) → b₁ ≡ sets b at (u32Bytes (n % 2 ^ 32)) → b₂ ≡ sets b₁ (at + 4) (u32Bytes (n / 2 ^ 32)) → b₂ ≡ sets b at (u64Bytes n)
-unfolding u64Bytes u32Bytes
-two-words b at n e₁ e₂ = then-bytes b at (at + 4) (u32Bytes (n % 2 ^ 32)) (u32Bytes (n / 2 ^ 32)) e₁ e₂ refl
+use Rattle.constraint.specs.declared.Record.{Record}
 
 pub record-words : (b : List ℕ) {b₁ b₂ b₃ b₄ : List ℕ} (at kind arg lo hi : ℕ) → b₁ ≡ sets b at (u32Bytes kind) → b₂ ≡ sets b₁ (at + 4) (u32Bytes arg) →
     b₃ ≡ sets b₂ (at + 8) (u64Bytes lo) → b₄ ≡ sets b₃ (at + 16) (u64Bytes hi) → b₄ ≡ sets b at (u32Bytes kind ++ u32Bytes arg ++ u64Bytes lo ++ u64Bytes hi)
@@ -29,29 +20,6 @@ record-words b at kind arg lo hi e₁ e₂ e₃ e₄ =
     let Q = u32Bytes arg in
     let R = u64Bytes lo in
     then-bytes b at (at + 16) (P ++ Q ++ R) (u64Bytes hi) (then-bytes b at (at + 8) (P ++ Q) R (then-bytes b at (at + 4) P Q e₁ e₂ refl) e₃ refl) e₄ refl
-
--- ---- records
-bytes-append : (xs ys : List Record) → recordsBytes xs ++ recordsBytes ys ≡ recordsBytes (xs ++ ys)
-unfolding recordsBytes
-bytes-append [] ys = refl
-bytes-append (x ∷ xs) ys = append-assoc (recordBytes x) (recordsBytes xs) (recordsBytes ys) ∙ ap (λ (l : List ℕ). recordBytes x ++ l) (bytes-append xs ys)
-
-pub puts-is : {b c : List ℕ} {at n : ℕ} {rs qs : List Record} → rs ≡ qs → Puts b c at n qs → Puts b c at n rs
-puts-is e p = rw e p
-
-pub puts-none : (b : List ℕ) (at : ℕ) → Puts b b at at []
-unfolding recordsBytes
-puts-none b at = record { counted = sym (add-zero at); put = refl }
-
-pub puts-one : (b : List ℕ) {b₁ : List ℕ} (at : ℕ) (r : Record) → b₁ ≡ sets b (24 * at) (recordBytes r) → Puts b b₁ at (at + 1) (r ∷ [])
-unfolding recordsBytes
-puts-one b at r e = record { counted = refl; put = e ∙ ap (sets b (24 * at)) (sym (append-nil (recordBytes r))) }
-
-pub puts-then : (b : List ℕ) {b₁ b₂ : List ℕ} (at : ℕ) {n m : ℕ} (xs ys : List Record) → Puts b b₁ at n xs → Puts b₁ b₂ n m ys → Puts b b₂ at m (xs ++ ys)
-puts-then b at xs ys p q = record {
-  counted = q .counted ∙ omega (arith, p .counted, length-append xs ys);
-  put = then-bytes b (24 * at) _ (recordsBytes xs) (recordsBytes ys) (p .put) (q .put) (omega (arith, p .counted, length-records xs)) ∙ ap (sets b (24 * at)) (bytes-append xs ys);
-}
 
 -- the record x, read as one kind, by the words that were written
 module _ (b : List ℕ) {b₁ : List ℕ} (at : ℕ) {x : Record} where
