@@ -5,10 +5,11 @@ use mathlib.Core.List.{List, [], _∷_, _++_}
 use native.Mathlib.Nat.{le-of-suc-le-suc, not-suc-le-zero}
 use native.Mathlib.Omega.{arith}
 use lib.ListN.{length, getD, set, take}
-use lib.Seq.{length-take-le, take-set-lt, getD-take}
+use lib.Seq.{length-take-le, take-set-lt, getD-take, take-at}
 use lib.Ieee.{Float, nan}
 use Rattle.interval.specs.Interval.{_‥_}
-use Rattle.interval.specs.Boxes.{intervals, missing, starting}
+use Rattle.interval.specs.Boxes.{intervals, boxesOf, missing, starting, midpoints, padded}
+use Rattle.interval.specs.declared.Boxes.{Boxes}
 use Rattle.interval.specs.declared.Interval.{Interval}
 
 pub intervals-at : (lo hi : List Float) (j : ℕ) (d : Interval) → length hi ≡ length lo → j < length lo → (getD lo j nan ‥ getD hi j nan) ≡ getD (intervals lo hi) j d
@@ -78,3 +79,19 @@ pub starting-all : (bounds : List Interval) → starting (length bounds) bounds 
 unfolding starting
 starting-all [] = refl
 starting-all (b ∷ bounds) = ap (λ (r : List Interval). b ∷ r) (starting-all bounds)
+
+-- ---- boxes by value
+pub boxes-length : (b : Boxes) → length (b .lo) ≡ 16 → length (b .hi) ≡ 16 → b .count ≤ 16 → length (boxesOf b) ≡ b .count
+unfolding boxesOf
+boxes-length b p q h = first-length (b .count) (b .lo) (b .hi) (omega arith) (q ∙ sym p)
+
+-- ---- the midpoints
+pub midpoints-length : (b : List Interval) → length (midpoints b) ≡ length b
+unfolding midpoints
+midpoints-length [] = refl
+midpoints-length (i ∷ is) = ap suc (midpoints-length is)
+
+-- the values of a padded point
+pub padded-take : (m : List Float) (n : ℕ) → length m ≡ n → take n (padded m) ≡ m
+unfolding padded
+padded-take m n e = take-at m _ n e

@@ -1,14 +1,14 @@
 -- Boxes: a list of intervals, one for each variable.
-use Prim.Native.Nat.{ℕ, zero, suc}
+use Prim.Native.Nat.{ℕ, zero, suc, _-_}
 use mathlib.Core.Bool.{Bool, true, false, _&&_, _||_}
-use mathlib.Core.List.{List, [], _∷_}
+use mathlib.Core.List.{List, [], _∷_, _++_}
 use lib.IntN.{negsuc}
 use lib.Dec.{leb, eqb}
 use lib.Ieee.{Float, binary64}
-use lib.ListN.{length, take}
-use Rattle.number.specs.Halving.{sound}
-use Rattle.number.specs.Notation.{whole, integer}
-use Rattle.interval.specs.Interval.{_‥_, isEmpty}
+use lib.ListN.{length, take, replicate}
+use Rattle.number.specs.Sound.{sound}
+use Rattle.number.specs.Notation.{if_then_else_, _≺_, whole, integer}
+use Rattle.interval.specs.Interval.{_‥_, isEmpty, width, midpoint}
 use Rattle.interval.specs.declared.Interval.{Interval}
 use Rattle.interval.specs.declared.Boxes.{Boxes}
 
@@ -26,7 +26,30 @@ unfoldable pub anyEmpty : List Interval → Bool
 anyEmpty [] = false
 anyEmpty (i ∷ is) = isEmpty i || anyEmpty is
 
+-- ---- what halving asks of them
+unfoldable pub midpoints : List Interval → List Float
+midpoints [] = []
+midpoints (i ∷ is) = midpoint i ∷ midpoints is
+
+-- every interval is narrower than the tolerance
+unfoldable pub allBelow : Float → List Interval → Bool
+allBelow ε [] = true
+allBelow ε (i ∷ is) = (width i ≺ ε) && allBelow ε is
+
+-- the number of the last widest interval, from number n on; i is the widest so far, and w its width
+unfoldable pub widestFrom : ℕ → Float → ℕ → List Interval → ℕ
+widestFrom i w n [] = i
+widestFrom i w n (x ∷ xs) = let keep = width x ≺ w in widestFrom (if keep then i else n) (if keep then w else width x) (suc n) xs
+
+unfoldable pub widest : List Interval → ℕ
+widest [] = 0
+widest (x ∷ xs) = widestFrom 0 (width x) 1 xs
+
 -- ---- as the code holds them
+-- a point has 16 places; those past its values are 0
+unfoldable pub padded : List Float → List Float
+padded m = m ++ replicate (16 - length m) (whole 0)
+
 -- a list of lower and one of upper ends
 unfoldable pub intervals : List Float → List Float → List Interval
 intervals [] hs = []

@@ -6,15 +6,16 @@ use mathlib.Core.List.{List, [], _∷_}
 use lib.Dec.{T}
 use lib.ListN.{getD, set}
 use lib.Ieee.{Float, binary64, fits, isNan, ofInt, le}
-use lib.Ieee.Fits.{add-fits, sub-fits, mul-fits, div-fits, nan-fits, inf-fits, ofInt-fits, and-i}
+use lib.Ieee.Fits.{add-fits, sub-fits, mul-fits, div-fits, nan-fits, inf-fits, ofInt-fits, and-i, and-l, and-r}
 use Rattle.number.specs.Notation.{_≺_, _≼_}
 use Rattle.number.specs.Order.{le-refl, le-trans, le-left, le-right, not-lt→le}
 use Rattle.number.specs.MaxMin.{maxOf, minOf, max-laws, min-laws, kept}
-use Rattle.number.specs.Halving.{sound, mid, sound-lo, sound-hi, sound-le, lo≤mid, mid≤hi, part-sound}
+use Rattle.number.specs.Sound.{sound, sound-lo, sound-hi, sound-le, part-sound}
+use Rattle.number.specs.Halving.{mid, lo≤mid, mid≤hi}
 use Rattle.maths.specs.Exp.{expOf, expAt, scaled}
 use Rattle.maths.specs.Ln.{lnOf, lnFrom, lnAt}
 use Rattle.interval.specs.Interval.{isEmpty, midpoint, contains, split, intersect, hull, exp, nothing, ln, plus, minus}
-use Rattle.interval.specs.Boxes.{missing}
+use Rattle.interval.specs.Boxes.{missing, intervals, allSound}
 use Rattle.interval.specs.Choices.{either, neither}
 use Rattle.interval.specs.declared.Interval.{Interval}
 
@@ -230,3 +231,19 @@ set-proper (x ∷ xs) (suc i) new g p = (g .0, set-proper xs i new (g .1) p)
 -- an interval inside the old one, written
 pub set-narrower : (b : List Interval) (i : ℕ) (new : Interval) → Each Proper b → Inside (getD b i missing) new → Ends new → Narrower b (set b i new)
 set-narrower b i new g p e = record { inside = set-inside b i new g p; proper = set-proper b i new g (record { ordered = p .ordered; ends = e }) }
+
+-- ---- boxes that a call takes, every end an f64
+abbrev pub AllHeld : List Float → Type 0
+AllHeld [] = Unit {0}
+AllHeld (x ∷ xs) = Held x × AllHeld xs
+
+pub ends-held : (lo hi : List Float) → AllHeld lo → AllHeld hi → Each Ends (intervals lo hi)
+unfolding intervals
+ends-held [] hi p q = tt
+ends-held (l ∷ lo) [] p q = tt
+ends-held (l ∷ lo) (h ∷ hi) p q = (record { lo = p .0; hi = q .0 }, ends-held lo hi (p .1) (q .1))
+
+pub boxes-sound : (b : List Interval) → Each Ends b → T (allSound b) → Each Sound b
+unfolding allSound
+boxes-sound [] f t = tt
+boxes-sound (i ∷ is) f t = (record { range = and-l (isSound i) (allSound is) t; ends = f .0 }, boxes-sound is (f .1) (and-r (isSound i) (allSound is) t))

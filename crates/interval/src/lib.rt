@@ -1,12 +1,14 @@
 // Intervals of two f64 (document 01, "Narrowing"), with the methods of interval.rs. They take any f64 and refuse nothing.
 ghost use mathlib.Core.Path.{_≡_};
-ghost use Prim.Native.Nat.{_≤_};
-ghost use lib.ListN.{length, getD};
+ghost use Prim.Native.Nat.{_<_, _≤_};
+ghost use mathlib.Core.Bool.{_&&_};
+ghost use lib.Dec.{leb};
+ghost use lib.ListN.{length, getD, set};
 ghost use lib.Ieee.Scale.{finite};
 ghost use Rattle.maths.specs.Exp.{expOf};
 ghost use Rattle.maths.specs.Ln.{lnOf};
-ghost use Rattle.interval.specs.Interval.{_‥_, isEmpty, width, midpoint, contains, split, intersect, hull, exp, hasLn, ln};
-ghost use Rattle.interval.specs.Boxes.{boxesOf, missing, starting, anyEmpty, allSound, areBoxes};
+ghost use Rattle.interval.specs.Interval.{_‥_, isEmpty, width, midpoint, contains, split, intersect, hull, exp, hasLn, ln, plus, minus, moves};
+ghost use Rattle.interval.specs.Boxes.{boxesOf, missing, starting, midpoints, allBelow, widest, padded, anyEmpty, allSound, areBoxes};
 ghost use Rattle.interval.specs.Views.{before};
 
 #[repr(C)]
@@ -156,6 +158,25 @@ impl Interval {
     {
         self.exp()
     }
+
+    pub fn plus(self, other: Interval) -> Self
+        ensures { λ r. ⌜ r ≡ plus self other ⌝ }
+    {
+        Self::new(self.lo + other.lo, self.hi + other.hi)
+    }
+
+    pub fn minus(self, other: Interval) -> Self
+        ensures { λ r. ⌜ r ≡ minus self other ⌝ }
+    {
+        Self::new(self.lo - other.hi, self.hi - other.lo)
+    }
+
+    // Whether an end of `new` lies inside by over the slack.
+    pub fn moves(self, new: Interval, slack: f64) -> bool
+        ensures { λ r. ⌜ r ≡ moves slack self new ⌝ }
+    {
+        (new.lo > self.lo + slack) | (new.hi < self.hi - slack)
+    }
 }
 
 // ---- boxes: an interval for each variable, in two lists of ends
@@ -228,6 +249,102 @@ impl Boxes {
         out
     }
 
+    // Box i; one beyond the list is [-10, 10].
+    pub fn at(self, i: usize) -> Interval
+        requires { ⌜ self .count ≤ 16 ⌝ }
+        ensures { λ r. ⌜ r ≡ getD (boxesOf self) i missing ⌝ }
+    {
+        if i < self.count {
+            return Interval::new(self.lo[i], self.hi[i]);
+        }
+        Interval::new(-10.0, 10.0)
+    }
+
+    // The same boxes, but for box i.
+    pub fn with_box(self, i: usize, v: Interval) -> Boxes
+        requires { ⌜ (self .count ≤ 16) × (i < self .count) ⌝ }
+        ensures { λ r. ⌜ (r .count ≡ self .count) × (boxesOf r ≡ set (boxesOf self) i v) ⌝ }
+    {
+        let mut out = self;
+        out.lo[i] = v.lo;
+        out.hi[i] = v.hi;
+        out
+    }
+
+    // The first n of these bounds, a missing one being [-10, 10].
+    pub fn starting(self, n: usize) -> Boxes
+        requires { ⌜ (self .count ≤ 16) × (n ≤ 16) ⌝ }
+        ensures { λ r. ⌜ (r .count ≡ n) × (boxesOf r ≡ starting n (boxesOf self)) ⌝ }
+    {
+        let mut out = Boxes {
+            lo: [0.0; 16],
+            hi: [0.0; 16],
+            count: n,
+        };
+        let mut i: usize = 0;
+        while i < n {
+            let v = self.at(i);
+            out.lo[i] = v.lo;
+            out.hi[i] = v.hi;
+            i += 1;
+        }
+        out
+    }
+
+    // The midpoint of each box.
+    pub fn midpoints(self) -> [f64; 16]
+        requires { ⌜ self .count ≤ 16 ⌝ }
+        ensures { λ r. ⌜ (r ≡ padded (midpoints (boxesOf self))) × (length (midpoints (boxesOf self)) ≡ self .count) ⌝ }
+    {
+        let mut point = [0.0; 16];
+        let n = self.count;
+        let mut i: usize = 0;
+        while i < n {
+            point[i] = self.at(i).midpoint();
+            i += 1;
+        }
+        point
+    }
+
+    // Whether every box is narrower than the tolerance.
+    pub fn all_below(self, tolerance: f64) -> bool
+        requires { ⌜ self .count ≤ 16 ⌝ }
+        ensures { λ r. ⌜ r ≡ allBelow tolerance (boxesOf self) ⌝ }
+    {
+        let n = self.count;
+        let mut i: usize = 0;
+        while i < n {
+            if self.at(i).width() < tolerance {
+                i += 1;
+            } else {
+                return false;
+            }
+        }
+        true
+    }
+
+    // The number of the last widest box.
+    pub fn widest(self) -> usize
+        requires { ⌜ (0 < self .count) × (self .count ≤ 16) ⌝ }
+        ensures { λ r. ⌜ (r < self .count) × (r ≡ widest (boxesOf self)) ⌝ }
+    {
+        let n = self.count;
+        let mut at: usize = 0;
+        let mut most = self.at(0).width();
+        let mut i: usize = 1;
+        while i < n {
+            let w = self.at(i).width();
+            if w < most {
+                i += 1;
+            } else {
+                at = i;
+                most = w;
+                i += 1;
+            }
+        }
+        at
+    }
+
     pub fn is_empty(self) -> bool
         requires { ⌜ self .count ≤ 16 ⌝ }
         ensures { λ r. ⌜ r ≡ anyEmpty (boxesOf self) ⌝ }
@@ -242,5 +359,18 @@ impl Boxes {
             i += 1;
         }
         false
+    }
+
+    // Whether they are boxes that a call takes: at most 16, and each box sound.
+    pub fn are_sound(self) -> bool
+        ensures { λ r. ⌜ r ≡ (leb (self .count) 16 && allSound (boxesOf self)) ⌝ }
+    {
+        let count = self.count;
+        if 16 < count {
+            return false;
+        }
+        let lo = self.lo;
+        let hi = self.hi;
+        all_sound(&lo[..count], &hi[..count])
     }
 }

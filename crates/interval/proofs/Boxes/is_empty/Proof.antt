@@ -21,15 +21,29 @@ loop-holds c = refl
 
 returns : tie.Need-returns Inv-loop μ-loop
 unfolding boxesOf
-returns c = let l : length (c .before .before .before .before .before .before .before .args .t1 .lo) ≡ 16 = search needs in let h : length (c .before .before .before .before .before .before .before .args .t1 .hi) ≡ 16 = search needs in empty-here _ _ _ _ l h (c .before .before .before .before .before .before .before .pre) (c .before .before .before .before .before .loop-test .taken) (c .before .before .before .before .before .before .loop .inv) (ap isEmpty (sym (c .before .before .new .ensures)) ∙ sym (c .before .is-empty .ensures) ∙ c .if1 .taken)
+returns c =
+    let p = c .before .before .before .before .before in
+    let s = p .before .before in
+    let l : length (s .args .t1 .lo) ≡ 16 = search needs in
+    let h : length (s .args .t1 .hi) ≡ 16 = search needs in
+    empty-here _ _ _ _ l h (s .pre) (p .loop-test .taken) (p .before .loop .inv) (ap isEmpty (sym (c .before .before .new .ensures)) ∙ sym (c .before .is-empty .ensures) ∙ c .if1 .taken)
 
 loop-again : tie.Need-loop-again Inv-loop μ-loop
 unfolding boxesOf
-loop-again c = let l : length (c .before .before .before .before .before .before .before .args .t1 .lo) ≡ 16 = search needs in let h : length (c .before .before .before .before .before .before .before .args .t1 .hi) ≡ 16 = search needs in empty-later _ _ _ _ l h (c .before .before .before .before .before .before .before .pre) (c .before .before .before .before .before .loop-test .taken) (c .before .before .before .before .before .before .loop .inv) (ap isEmpty (sym (c .before .before .new .ensures)) ∙ sym (c .before .is-empty .ensures) ∙ c .if1 .left)
+loop-again c =
+    let p = c .before .before .before .before .before in
+    let s = p .before .before in
+    let l : length (s .args .t1 .lo) ≡ 16 = search needs in
+    let h : length (s .args .t1 .hi) ≡ 16 = search needs in
+    empty-later _ _ _ _ l h (s .pre) (p .loop-test .taken) (p .before .loop .inv) (ap isEmpty (sym (c .before .before .new .ensures)) ∙ sym (c .before .is-empty .ensures) ∙ c .if1 .left)
 
 returns-2 : tie.Need-returns-2 Inv-loop μ-loop
 unfolding boxesOf
-returns-2 c = let l : length (c .before .before .args .t1 .lo) ≡ 16 = search needs in let h : length (c .before .before .args .t1 .hi) ≡ 16 = search needs in empty-none _ _ _ _ l h (c .before .before .pre) (c .loop-test .left) (c .before .loop .inv)
+returns-2 c =
+    let s = c .before .before in
+    let l : length (s .args .t1 .lo) ≡ 16 = search needs in
+    let h : length (s .args .t1 .hi) ≡ 16 = search needs in
+    empty-none _ _ _ _ l h (s .pre) (c .loop-test .left) (c .before .loop .inv)
 
 pub is-empty-spec : {M : Type 1} → statement M
 is-empty-spec =

@@ -24,7 +24,15 @@ box-at-requires c κs = c .before .before .before .before .pre .0
 
 loop-again : tie.Need-loop-again Inv-loop μ-loop
 unfolding boxesOf
-loop-again c = let p = c .before .before .loop .inv in (omega arith, p .1, length-set (c .before .before .loop .out .lo) _ _ ∙ p .2, length-set (c .before .before .loop .out .hi) _ _ ∙ p .3, starting-next (c .before .before .loop .out .count) (c .before .before .loop .i) _ _ (p .2) (p .3) (omega arith) _ _ (omega arith) (p .4) (c .box-at .ensures))
+loop-again c =
+    let l = c .before .before .loop in
+    let p = l .inv in (
+      omega arith,
+      p .1,
+      length-set (l .out .lo) _ _ ∙ p .2,
+      length-set (l .out .hi) _ _ ∙ p .3,
+      starting-next (l .out .count) (l .i) _ _ (p .2) (p .3) (omega arith) _ _ (omega arith) (p .4) (c .box-at .ensures),
+    )
 
 returns : tie.Need-returns Inv-loop μ-loop
 unfolding boxesOf
