@@ -1,123 +1,131 @@
--- The check, by the constraints that a record takes. Assumes nothing.
-use Prim.Native.Nat.{ℕ, _-_}
-use mathlib.Core.Path.{_≡_, refl, sym, ap, ap₂, _∙_}
-use mathlib.Core.Bool.{Bool, true, false, not, _&&_, _||_}
+-- The check, by the constraints that a record takes and by a quantifier's samples. Assumes nothing.
+use Prim.Native.Nat.{ℕ, _-_, _+_, _<_, _≤_}
+use mathlib.Core.Path.{_≡_, refl, sym, ap, _∙_, subst}
+use mathlib.Core.Bool.{Bool, true, false, not, _&&_, _||_, Bool·beq}
 use mathlib.Core.List.{List, [], _∷_, _++_}
-use borrow.Author.Tests.{not-true, not-false}
-use lib.Ieee.{Float, binary64}
-use lib.ListN.{getD, set}
+use lib.Dec.{T}
+use lib.Ieee.{Float, nan, binary64}
+use lib.ListN.{getD, set, drop}
 use Rattle.number.specs.Halving.{mid}
 use Rattle.settings.specs.declared.Settings.{Settings}
-use Rattle.constraint.specs.Constraint.{Constraint, ForAll, Exists}
+use Rattle.constraint.specs.Constraint.{Constraint}
 use Rattle.constraint.specs.Records.{constraintAt, gather}
 use Rattle.constraint.specs.Starts.{Taken, upTo}
 use Rattle.constraint.specs.RecordLaws.{none-taken, up-to}
-use Rattle.point.specs.Check.{check, checkAll, checkAny}
+use Rattle.point.specs.Check.{check}
+use Rattle.point.specs.Code.{joined, quantified, samplesOf}
+use Rattle.point.proofs.Sampling.{sample-next, no-sample}
 
-and-assoc : (x y z : Bool) → ((x && y) && z) ≡ (x && (y && z))
-and-assoc true y z = refl
-and-assoc false y z = refl
+-- any of x and y, or else all
+abbrev either : Bool → Bool → Bool → Bool
+either false x y = x && y
+either true x y = x || y
 
-and-true : (x : Bool) → (x && true) ≡ x
-and-true true = refl
-and-true false = refl
+either-assoc : (any x y z : Bool) → either any (either any x y) z ≡ either any x (either any y z)
+either-assoc false true y z = refl
+either-assoc false false y z = refl
+either-assoc true true y z = refl
+either-assoc true false y z = refl
 
-or-assoc : (x y z : Bool) → ((x || y) || z) ≡ (x || (y || z))
-or-assoc true y z = refl
-or-assoc false y z = refl
+either-none : (any x : Bool) → either any x (not any) ≡ x
+either-none false true = refl
+either-none false false = refl
+either-none true true = refl
+either-none true false = refl
 
-or-false : (x : Bool) → (x || false) ≡ x
-or-false true = refl
-or-false false = refl
+either-open : (any y : Bool) → either any (not any) y ≡ y
+either-open false y = refl
+either-open true y = refl
 
--- x && y && z and x || y || z, where x, or x and y, are known
-false-first : (x y z : Bool) → x ≡ false → false ≡ (x && y && z)
-false-first x y z e = sym (ap (λ (t : Bool). t && y && z) e)
+-- x settles it, or leaves it to y
+settled : (any x y : Bool) {goal : Bool} → either any x y ≡ goal → Bool·beq x any ≡ true → any ≡ goal
+settled false false y w e = w
+settled false true y w e = absurd (subst T (sym e) tt)
+settled true false y w e = absurd (subst T (sym e) tt)
+settled true true y w e = w
 
-false-second : (x y z : Bool) → x ≡ true → y ≡ false → false ≡ (x && y && z)
-false-second x y z e f = sym (ap₂ (λ (t u : Bool). t && u && z) e f)
+goes-on : (any x y : Bool) {goal : Bool} → either any x y ≡ goal → Bool·beq x any ≡ false → y ≡ goal
+goes-on false false y w e = absurd (subst T e tt)
+goes-on false true y w e = w
+goes-on true false y w e = w
+goes-on true true y w e = absurd (subst T e tt)
 
-true-both : (x y z r : Bool) → x ≡ true → y ≡ true → r ≡ z → r ≡ (x && y && z)
-true-both x y z r e f g = g ∙ sym (ap₂ (λ (t u : Bool). t && u && z) e f)
+-- ---- the last m before record n: none, or those before the last, and the last
+module _ (σ : Settings) (p : List Float) (any : Bool) where
+  abbrev each : List Constraint → Bool
+  each cs = check σ p (joined any (gather cs))
 
-true-first : (x y z : Bool) → x ≡ true → true ≡ (x || y || z)
-true-first x y z e = sym (ap (λ (t : Bool). t || y || z) e)
+  each-none : each [] ≡ not any
+  unfolding gather check
+  each-none = go any
+    where
+      go : (a : Bool) → check σ p (joined a (gather [])) ≡ not a
+      go false = refl
+      go true = refl
 
-true-second : (x y z : Bool) → x ≡ false → y ≡ true → true ≡ (x || y || z)
-true-second x y z e f = sym (ap₂ (λ (t u : Bool). t || u || z) e f)
+  each-first : (c : Constraint) (cs : List Constraint) → each (c ∷ cs) ≡ either any (check σ p c) (each cs)
+  unfolding gather check
+  each-first c cs = go any
+    where
+      go : (a : Bool) → check σ p (joined a (gather (c ∷ cs))) ≡ either a (check σ p c) (check σ p (joined a (gather cs)))
+      go false = refl
+      go true = refl
 
-false-both : (x y z r : Bool) → x ≡ false → y ≡ false → r ≡ z → r ≡ (x || y || z)
-false-both x y z r e f g = g ∙ sym (ap₂ (λ (t u : Bool). t || u || z) e f)
+  each-last : (cs : List Constraint) (c : Constraint) → each (cs ++ c ∷ []) ≡ either any (each cs) (check σ p c)
+  each-last [] c =
+      each-first c [] ∙ ap (either any (check σ p c)) each-none ∙ either-none any (check σ p c)
+      ∙ sym (ap (λ (t : Bool). either any t (check σ p c)) each-none ∙ either-open any (check σ p c))
+  each-last (x ∷ cs) c =
+      each-first x (cs ++ c ∷ []) ∙ ap (either any (check σ p x)) (each-last cs c)
+      ∙ sym (ap (λ (t : Bool). either any t (check σ p c)) (each-first x cs) ∙ either-assoc any (check σ p x) (each cs) (check σ p c))
 
-module _ (σ : Settings) (p : List Float) where
-  all-snoc : (cs : List Constraint) (c : Constraint) → checkAll σ p (gather (cs ++ c ∷ [])) ≡ (checkAll σ p (gather cs) && check σ p c)
-  unfolding gather checkAll
-  all-snoc [] c = and-true (check σ p c)
-  all-snoc (x ∷ cs) c = ap (λ (t : Bool). check σ p x && t) (all-snoc cs c) ∙ sym (and-assoc (check σ p x) (checkAll σ p (gather cs)) (check σ p c))
-
-  any-snoc : (cs : List Constraint) (c : Constraint) → checkAny σ p (gather (cs ++ c ∷ [])) ≡ (checkAny σ p (gather cs) || check σ p c)
-  unfolding gather checkAny
-  any-snoc [] c = or-false (check σ p c)
-  any-snoc (x ∷ cs) c = ap (λ (t : Bool). check σ p x || t) (any-snoc cs c) ∙ sym (or-assoc (check σ p x) (checkAny σ p (gather cs)) (check σ p c))
-
-  -- the last m before record n: none, or those before the last, and the last
   module _ (nodes b : List ℕ) (m n : ℕ) (starts : List ℕ) (q : Taken nodes b m n starts) where
-    pub all-of-none : m ≡ 0 → true ≡ checkAll σ p (gather (upTo nodes b m n))
-    unfolding gather checkAll
-    all-of-none e = sym (ap (λ (cs : List Constraint). checkAll σ p (gather cs)) (none-taken nodes b m n starts q e))
+    pub each-of-none : m ≡ 0 → not any ≡ each (upTo nodes b m n)
+    each-of-none e = sym (ap each (none-taken nodes b m n starts q e) ∙ each-none)
 
-    pub any-of-none : m ≡ 0 → false ≡ checkAny σ p (gather (upTo nodes b m n))
-    unfolding gather checkAny
-    any-of-none e = sym (ap (λ (cs : List Constraint). checkAny σ p (gather cs)) (none-taken nodes b m n starts q e))
+    -- `before` is the answer for those before the last
+    module _ (h : m ≡ 0 → ⊥) (s : ℕ) (e : s ≡ getD starts (n - 1) 0) (before : Bool) (w : before ≡ each (upTo nodes b (m - 1) s)) where
+      of-more : either any before (check σ p (constraintAt nodes b (n - 1))) ≡ each (upTo nodes b m n)
+      of-more =
+          ap (λ (t : Bool). either any t (check σ p (constraintAt nodes b (n - 1)))) w
+          ∙ sym (ap each (up-to nodes b m n starts q h s e) ∙ each-last (upTo nodes b (m - 1) s) (constraintAt nodes b (n - 1)))
 
-    module _ (h : m ≡ 0 → ⊥) (s : ℕ) (e : s ≡ getD starts (n - 1) 0) where
-      all-of-more : checkAll σ p (gather (upTo nodes b m n)) ≡ (checkAll σ p (gather (upTo nodes b (m - 1) s)) && check σ p (constraintAt nodes b (n - 1)))
-      all-of-more = ap (λ (cs : List Constraint). checkAll σ p (gather cs)) (up-to nodes b m n starts q h s e) ∙ all-snoc (upTo nodes b (m - 1) s) (constraintAt nodes b (n - 1))
+      pub each-settled : Bool·beq before any ≡ true → any ≡ each (upTo nodes b m n)
+      each-settled = settled any before _ of-more
 
-      any-of-more : checkAny σ p (gather (upTo nodes b m n)) ≡ (checkAny σ p (gather (upTo nodes b (m - 1) s)) || check σ p (constraintAt nodes b (n - 1)))
-      any-of-more = ap (λ (cs : List Constraint). checkAny σ p (gather cs)) (up-to nodes b m n starts q h s e) ∙ any-snoc (upTo nodes b (m - 1) s) (constraintAt nodes b (n - 1))
+      pub each-goes-on : Bool·beq before any ≡ false → (r : Bool) → r ≡ check σ p (constraintAt nodes b (n - 1)) → r ≡ each (upTo nodes b m n)
+      each-goes-on t r z = z ∙ goes-on any before _ of-more t
 
-      -- `before` is the answer for those before the last
-      module _ (before : Bool) where
-        pub all-stops : before ≡ checkAll σ p (gather (upTo nodes b (m - 1) s)) → not before ≡ true → false ≡ checkAll σ p (gather (upTo nodes b m n))
-        all-stops w t = sym (all-of-more ∙ ap (λ (x : Bool). x && check σ p (constraintAt nodes b (n - 1))) (sym w ∙ not-true before t))
+-- ---- a quantifier's samples, those that are left
+abbrev pub left : Bool → (Float → Bool) → List Float → Bool
+left any f [] = not any
+left any f (x ∷ xs) = either any (f x) (left any f xs)
 
-        pub all-goes-on : (r : Bool) → before ≡ checkAll σ p (gather (upTo nodes b (m - 1) s)) → not before ≡ false → r ≡ check σ p (constraintAt nodes b (n - 1)) → r ≡ checkAll σ p (gather (upTo nodes b m n))
-        all-goes-on r w t z = z ∙ sym (all-of-more ∙ ap (λ (x : Bool). x && check σ p (constraintAt nodes b (n - 1))) (sym w ∙ not-false before t))
+module _ (σ : Settings) (p : List Float) (v : ℕ) (lo hi : Float) (c : Constraint) (any : Bool) where
+  abbrev at : Float → Bool
+  at x = check σ (set p v x) c
 
-        pub any-stops : before ≡ checkAny σ p (gather (upTo nodes b (m - 1) s)) → before ≡ true → true ≡ checkAny σ p (gather (upTo nodes b m n))
-        any-stops w t = sym (any-of-more ∙ ap (λ (x : Bool). x || check σ p (constraintAt nodes b (n - 1))) (sym w ∙ t))
-
-        pub any-goes-on : (r : Bool) → before ≡ checkAny σ p (gather (upTo nodes b (m - 1) s)) → before ≡ false → r ≡ check σ p (constraintAt nodes b (n - 1)) → r ≡ checkAny σ p (gather (upTo nodes b m n))
-        any-goes-on r w t z = z ∙ sym (any-of-more ∙ ap (λ (x : Bool). x || check σ p (constraintAt nodes b (n - 1))) (sym w ∙ t))
-
--- ---- a quantifier's three samples, with the answers so far
-module _ (σ : Settings) (p : List Float) (v : ℕ) (lo hi : Float) (c : Constraint) (first : Bool) (f : first ≡ check σ (set p v lo) c) where
-  pub for-all-first : not first ≡ true → false ≡ check σ p (ForAll v lo hi c)
+  pub all-left : left any at (samplesOf lo hi) ≡ check σ p (quantified any v lo hi c)
   unfolding check
-  for-all-first t = false-first _ _ _ (sym f ∙ not-true first t)
+  all-left =
+      ap (λ (t : Bool). either any (at lo) (either any (at (mid binary64 lo hi)) t)) (either-none any (at hi))
+      ∙ sym (either-assoc any (at lo) (at (mid binary64 lo hi)) (at hi)) ∙ go any
+    where
+      go : (a : Bool) → either a (either a (at lo) (at (mid binary64 lo hi))) (at hi) ≡ check σ p (quantified a v lo hi c)
+      go false = refl
+      go true = refl
 
-  pub exists-first : first ≡ true → true ≡ check σ p (Exists v lo hi c)
-  unfolding check
-  exists-first t = true-first _ _ _ (sym f ∙ t)
+  module _ {samples : List Float} (e : samples ≡ samplesOf lo hi) (i : ℕ) (w : left any at (drop i samples) ≡ check σ p (quantified any v lo hi c)) where
+    pub none-left : 3 ≤ i → not any ≡ check σ p (quantified any v lo hi c)
+    none-left h = sym (ap (left any at) (no-sample e i h)) ∙ w
 
-  module _ (middle : Float) (w : middle ≡ mid binary64 lo hi) (second : Bool) (g : second ≡ check σ (set p v middle) c) where
-    at-middle : second ≡ check σ (set p v (mid binary64 lo hi)) c
-    at-middle = g ∙ ap (λ (x : Float). check σ (set p v x) c) w
+    -- sample i's answer
+    module _ (h : i < 3) (x : Bool) (f : x ≡ at (getD samples i nan)) where
+      one-left : either any x (left any at (drop (i + 1) samples)) ≡ check σ p (quantified any v lo hi c)
+      one-left = ap (λ (t : Bool). either any t (left any at (drop (i + 1) samples))) f ∙ sym (ap (left any at) (sample-next e i h)) ∙ w
 
-    pub for-all-second : not first ≡ false → not second ≡ true → false ≡ check σ p (ForAll v lo hi c)
-    unfolding check
-    for-all-second t u = false-second _ _ _ (sym f ∙ not-false first t) (sym at-middle ∙ not-true second u)
+      pub sample-settled : Bool·beq x any ≡ true → any ≡ check σ p (quantified any v lo hi c)
+      sample-settled = settled any x _ one-left
 
-    pub exists-second : first ≡ false → second ≡ true → true ≡ check σ p (Exists v lo hi c)
-    unfolding check
-    exists-second t u = true-second _ _ _ (sym f ∙ t) (sym at-middle ∙ u)
-
-    module _ (third : Bool) (h : third ≡ check σ (set p v hi) c) where
-      pub for-all-third : not first ≡ false → not second ≡ false → third ≡ check σ p (ForAll v lo hi c)
-      unfolding check
-      for-all-third t u = true-both _ _ _ third (sym f ∙ not-false first t) (sym at-middle ∙ not-false second u) h
-
-      pub exists-third : first ≡ false → second ≡ false → third ≡ check σ p (Exists v lo hi c)
-      unfolding check
-      exists-third t u = false-both _ _ _ third (sym f ∙ t) (sym at-middle ∙ u) h
+      pub sample-goes-on : Bool·beq x any ≡ false → left any at (drop (i + 1) samples) ≡ check σ p (quantified any v lo hi c)
+      sample-goes-on = goes-on any x _ one-left

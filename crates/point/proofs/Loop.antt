@@ -4,14 +4,12 @@ use mathlib.Core.Path.{_≡_, refl, sym, ap, ap₂, _∙_, subst}
 use mathlib.Core.List.{List, [], _∷_}
 use native.Mathlib.Omega.{arith}
 use native.Mathlib.Numerals.{add-one}
-use borrow.Author.Tests.{lt-ltb, le-ltb}
 use types.Run.{OneOf}
 use denote.Enum.Declared.{tagOf}
 use lib.ListN.{length, getD, take, drop, set, length-set, length-map, List·getD-map}
 use lib.Seq.{length-take-le, drop-cons, getD-set-same, getD-set-other, getD-take, drop-length}
 use lib.Ieee.{Float, nan}
-use Rattle.number.specs.Notation.{if_then_else_, bits, whole}
-use Rattle.number.specs.Literals.{zero-is, one-is}
+use Rattle.number.specs.Notation.{whole}
 use Rattle.maths.specs.declared.Complex.{Complex}
 use Rattle.settings.specs.declared.Settings.{Settings}
 use Rattle.tree.specs.Nodes.{nodeAt}
@@ -19,22 +17,16 @@ use Rattle.point.specs.declared.eval.Instruction.{Instruction}
 use Rattle.point.specs.declared.eval.Instruction.the-variants.{PushOne, PushConst, PushVar, Eml}
 use Rattle.point.specs.declared.eval.EvaluatedComplex.{EvaluatedComplex}
 use Rattle.point.specs.declared.eval.EvaluatedComplex.the-variants.{Value, Failed}
-use Rattle.point.specs.declared.eval.EvalError.{EvalError}
-use Rattle.point.specs.declared.eval.EvalError.the-variants.{VarOutOfBounds}
 use Rattle.point.specs.Eval.{real, emlComplex, variable}
-use Rattle.point.specs.Machine.{instructionOf, instructions, Stack, holding, stopped, pushed, reduced, step, onwards, run, result, Room, Fit, height}
+use Rattle.point.specs.Machine.{instructionOf, instructions, Stack, holding, pushed, reduced, step, onwards, run, result, valueAt, Balanced, Fit, height}
 use Rattle.point.proofs.eval.EvaluatedComplex.{the-type}
-
--- the value at a place, by its parts
-abbrev complex : Float → Float → Complex
-complex x y = record { re = x; im = y }
-
-abbrev pub at : List Float → List Float → ℕ → Complex
-at re im h = complex (getD re h nan) (getD im h nan)
 
 abbrev pub stackOf : List Float → List Float → ℕ → List Complex
 stackOf re im zero = []
-stackOf re im (suc h) = at re im h ∷ stackOf re im h
+stackOf re im (suc h) = valueAt re im h ∷ stackOf re im h
+
+abbrev parts : Float → Float → Complex
+parts x y = record { re = x; im = y }
 
 -- z stored at a place
 module _ (re im : List Float) (i : ℕ) (z : Complex) where
@@ -48,11 +40,11 @@ module _ (re im : List Float) (i : ℕ) (z : Complex) where
 
   pushes : i < length re → i < length im → stackOf (set re i (z .re)) (set im i (z .im)) (i + 1) ≡ z ∷ stackOf re im i
   pushes p q =
-      let t : at (set re i (z .re)) (set im i (z .im)) i ≡ z = ap₂ complex (getD-set-same re i (z .re) nan p) (getD-set-same im i (z .im) nan q) in
+      let t : valueAt (set re i (z .re)) (set im i (z .im)) i ≡ z = ap₂ parts (getD-set-same re i (z .re) nan p) (getD-set-same im i (z .im) nan q) in
       let f = above i (omega arith) in
       rw (add-one i) (cc)
 
-two : (re im : List Float) (h : ℕ) → 2 ≤ h → stackOf re im h ≡ at re im (h - 1) ∷ at re im (h - 2) ∷ stackOf re im (h - 2)
+two : (re im : List Float) (h : ℕ) → 2 ≤ h → stackOf re im h ≡ valueAt re im (h - 1) ∷ valueAt re im (h - 2) ∷ stackOf re im (h - 2)
 two re im zero p = absurd (omega arith)
 two re im (suc zero) p = absurd (omega arith)
 two re im (suc (suc h)) p =
@@ -76,97 +68,96 @@ module _ (b order : List ℕ) (n : ℕ) (w : n ≤ length order) where
       let l : j ≡ length (instructions b order n) = omega (arith, all) in
       rw l (drop-length (instructions b order n))
 
+-- ---- an instruction's value, and the place where it goes
+abbrev pub outcome : Settings → List Float → List Float → List Float → ℕ → Instruction → EvaluatedComplex
+outcome σ p re im h PushOne = Value (real (whole 1))
+outcome σ p re im h (PushConst v) = Value (real v)
+outcome σ p re im h (PushVar i) = variable p i
+outcome σ p re im h Eml = emlComplex σ (valueAt re im (h - 2)) (valueAt re im (h - 2 + 1))
+
+abbrev pub place : ℕ → Instruction → ℕ
+place h PushOne = h
+place h (PushConst v) = h
+place h (PushVar i) = h
+place h Eml = h - 2
+
+-- by the instruction that was read
+pub by : (σ : Settings) (p re im : List Float) (h : ℕ) {i x : Instruction} {j : ℕ} {out : EvaluatedComplex} → i ≡ x → j ≡ place h x → out ≡ outcome σ p re im h x →
+    (j ≡ place h i) × (out ≡ outcome σ p re im h i)
+by σ p re im h e f g = (f ∙ ap (place h) (sym e), g ∙ ap (outcome σ p re im h) (sym e))
+
+placed : (cap h : ℕ) (i : Instruction) → h ≤ cap → Fit cap h i → (height h i ≡ place h i + 1) × (place h i < cap)
+placed cap h PushOne l f = (refl, f)
+placed cap h (PushConst v) l f = (refl, f)
+placed cap h (PushVar i) l f = (refl, f)
+placed cap h Eml l f = (omega arith, omega arith)
+
+stepping : (σ : Settings) (p re im : List Float) (cap h : ℕ) (i : Instruction) → Fit cap h i →
+    step σ p i (stackOf re im h) ≡ pushed (outcome σ p re im h i) (stackOf re im (place h i))
+unfolding step
+stepping σ p re im cap h PushOne f = refl
+stepping σ p re im cap h (PushConst v) f = refl
+stepping σ p re im cap h (PushVar i) f = refl
+stepping σ p re im cap h Eml f =
+    let q : h - 1 ≡ h - 2 + 1 = omega arith in
+    ap (reduced σ) (two re im h f) ∙ ap (λ (k : ℕ). pushed (emlComplex σ (valueAt re im (h - 2)) (valueAt re im k)) (stackOf re im (h - 2))) q
+
 -- what holds at the loop's head: `is` are left to run, the stack has h values of at most cap, and running them gives `goal`
 pub record State (σ : Settings) (p : List Float) (goal : Stack) (cap : ℕ) (re im : List Float) (h : ℕ) (is : List Instruction) : Type 0 where
   pub long-re : length re ≡ cap
   pub long-im : length im ≡ cap
   pub within : h ≤ cap
-  pub room : Room cap h is
+  pub balanced : Balanced cap h is
   pub same : run σ p is (stackOf re im h) ≡ goal
 
 module _ {σ : Settings} {p : List Float} {goal : Stack} {cap : ℕ} {re im : List Float} {h : ℕ} {is : List Instruction} (st : State σ p goal cap re im h is) where
-  abbrev stack : List Complex
-  stack = stackOf re im h
-
   module _ {i : Instruction} {rest : List Instruction} (e : is ≡ i ∷ rest) where
     pub fit : Fit cap h i
-    unfolding Room
-    fit = subst (Room cap h) e (st .room) .0
+    unfolding Balanced
+    fit = subst (Balanced cap h) e (st .balanced) .0
 
-    room-left : Room cap (height h i) rest
-    unfolding Room
-    room-left = subst (Room cap h) e (st .room) .1
+    -- the place is there
+    pub there : (place h i < length re) × (place h i < length im)
+    there = let w = placed cap h i (st .within) fit .1 in (omega (arith, st .long-re), omega (arith, st .long-im))
 
-    -- the instruction's own step
-    stepped : onwards (step σ p i stack) (λ u. run σ p rest u) ≡ goal
+    -- the instruction's own step, and then the others
+    stepped : onwards (pushed (outcome σ p re im h i) (stackOf re im (place h i))) (λ u. run σ p rest u) ≡ goal
     unfolding run
-    stepped = ap (λ (d : List Instruction). run σ p d stack) (sym e) ∙ st .same
+    stepped =
+        ap (λ (o : Stack). onwards o (λ u. run σ p rest u)) (sym (stepping σ p re im cap h i fit))
+        ∙ ap (λ (d : List Instruction). run σ p d (stackOf re im h)) (sym e) ∙ st .same
 
-    -- z stored at place j, above what is left of the stack
-    advanced : (z : Complex) (j : ℕ) → height h i ≡ j + 1 → j < cap → step σ p i stack ≡ holding (z ∷ stackOf re im j) → State σ p goal cap (set re j (z .re)) (set im j (z .im)) (j + 1) rest
-    advanced z j q g w = record {
-      long-re = length-set re j (z .re) ∙ st .long-re;
-      long-im = length-set im j (z .im) ∙ st .long-im;
-      within = omega arith;
-      room = subst (λ (x : ℕ). Room cap x rest) q room-left;
-      same = ap (λ (u : List Complex). run σ p rest u) (pushes re im j z (omega (arith, st .long-re)) (omega (arith, st .long-im)))
-          ∙ sym (ap (λ (o : Stack). onwards o (λ u. run σ p rest u)) w) ∙ stepped;
-    }
+    module _ {j : ℕ} {out : EvaluatedComplex} (here : j ≡ place h i) (is-out : out ≡ outcome σ p re im h i) where
+      after : onwards (pushed out (stackOf re im j)) (λ u. run σ p rest u) ≡ goal
+      after = ap₂ (λ (o : EvaluatedComplex) (k : ℕ). onwards (pushed o (stackOf re im k)) (λ u. run σ p rest u)) is-out here ∙ stepped
 
-    fails : (o : EvalError) → step σ p i stack ≡ stopped o → Failed o ≡ result goal
-    fails o w = ap result (sym (ap (λ (x : Stack). onwards x (λ u. run σ p rest u)) w) ∙ stepped)
+      -- its value stored
+      pub turn : {z : Complex} → out ≡ Value z → State σ p goal cap (set re j (z .re)) (set im j (z .im)) (j + 1) rest
+      unfolding Balanced
+      turn {z} v =
+          let w = placed cap h i (st .within) fit in
+          let r = subst (Balanced cap h) e (st .balanced) .1 in
+          record {
+            long-re = length-set re j (z .re) ∙ st .long-re;
+            long-im = length-set im j (z .im) ∙ st .long-im;
+            within = omega arith;
+            balanced = subst (λ (x : ℕ). Balanced cap x rest) (w .0 ∙ ap (λ (k : ℕ). k + 1) (sym here)) r;
+            same = ap (λ (u : List Complex). run σ p rest u) (pushes re im j z (omega (arith, st .long-re)) (omega (arith, st .long-im)))
+                ∙ ap (λ (o : EvaluatedComplex). onwards (pushed o (stackOf re im j)) (λ u. run σ p rest u)) (sym v) ∙ after;
+          }
 
-  -- ---- each instruction's turn
-  module _ {rest : List Instruction} where
-    -- a real number pushed: the code's zero is the definition's
-    push : {i : Instruction} (x v : Float) → is ≡ i ∷ rest → height h i ≡ h + 1 → h < cap → x ≡ v → step σ p i stack ≡ holding (real v ∷ stack) → State σ p goal cap (set re h x) (set im h (bits 0)) (h + 1) rest
-    push x v e q g w t =
-        let u : complex x (bits 0) ≡ real v = ap₂ complex w (sym zero-is) in
-        advanced e (complex x (bits 0)) h q g (t ∙ ap (λ (y : Complex). holding (y ∷ stack)) (sym u))
-
-    pub one-turn : is ≡ PushOne ∷ rest → State σ p goal cap (set re h (bits 0x3ff0_0000_0000_0000)) (set im h (bits 0)) (h + 1) rest
-    unfolding step
-    one-turn e = push _ (whole 1) e refl (fit e) one-is refl
-
-    pub const-turn : {v : Float} → is ≡ PushConst v ∷ rest → State σ p goal cap (set re h v) (set im h (bits 0)) (h + 1) rest
-    unfolding step
-    const-turn {v} e = push v v e refl (fit e) refl refl
-
-    pub var-turn : {i : ℕ} → is ≡ PushVar i ∷ rest → i < length p → State σ p goal cap (set re h (getD p i nan)) (set im h (bits 0)) (h + 1) rest
-    unfolding step variable if_then_else_
-    var-turn {i} e g = push (getD p i nan) (getD p i nan) e refl (fit e) refl (rw (lt-ltb i (length p) g) refl)
-
-    pub var-stop : {i : ℕ} → is ≡ PushVar i ∷ rest → length p ≤ i → Failed (VarOutOfBounds i (length p)) ≡ result goal
-    unfolding step variable if_then_else_
-    var-stop {i} e g = fails e (VarOutOfBounds i (length p)) (rw (le-ltb i (length p) g) refl)
-
-    module _ (e : is ≡ Eml ∷ rest) where
-      abbrev value : EvaluatedComplex
-      value = emlComplex σ (at re im (h - 2)) (at re im (h - 1))
-
-      reduces : step σ p Eml stack ≡ pushed value (stackOf re im (h - 2))
-      unfolding step
-      reduces = ap (reduced σ) (two re im h (fit e))
-
-      pub eml-turn : {z : Complex} → value ≡ Value z → State σ p goal cap (set re (h - 2) (z .re)) (set im (h - 2) (z .im)) (h - 1) rest
-      eml-turn {z} v =
-          let g : 2 ≤ h = fit e in
-          let q : h - 1 ≡ h - 2 + 1 = omega arith in
-          subst (λ (x : ℕ). State σ p goal cap (set re (h - 2) (z .re)) (set im (h - 2) (z .im)) x rest) (sym q)
-          (advanced e z (h - 2) q (omega (arith, st .within)) (reduces ∙ ap (λ (o : EvaluatedComplex). pushed o (stackOf re im (h - 2))) v))
-
-      pub eml-stop : {x : EvaluatedComplex} → x ≡ value → OneOf (1 ∷ []) (tagOf the-type x) → x ≡ result goal
-      eml-stop {x} v w = go x v w
+      pub stop : OneOf (1 ∷ []) (tagOf the-type out) → out ≡ result goal
+      stop w = go out w after
         where
-          go : (y : EvaluatedComplex) → y ≡ value → OneOf (1 ∷ []) (tagOf the-type y) → y ≡ result goal
-          go (Value z) v w = absurd (omega arith)
-          go (Failed o) v w = fails e o (reduces ∙ ap (λ (x : EvaluatedComplex). pushed x (stackOf re im (h - 2))) (sym v))
+          go : (o : EvaluatedComplex) → OneOf (1 ∷ []) (tagOf the-type o) → onwards (pushed o (stackOf re im j)) (λ u. run σ p rest u) ≡ goal → o ≡ result goal
+          go (Value z) w q = absurd (omega arith)
+          go (Failed x) w q = ap result q
 
-  pub ended : is ≡ [] → (1 ≤ cap) × (Value (at re im 0) ≡ result goal)
-  unfolding run Room
+  pub ended : is ≡ [] → (1 ≤ cap) × (Value (valueAt re im 0) ≡ result goal)
+  unfolding run Balanced
   ended e =
-      let g : h ≡ 1 = subst (Room cap h) e (st .room) in (
+      let g : h ≡ 1 = subst (Balanced cap h) e (st .balanced) in (
         omega (arith, st .within),
         ap (λ (x : ℕ). result (holding (stackOf re im x))) (sym g)
-            ∙ ap result (ap (λ (d : List Instruction). run σ p d stack) (sym e) ∙ st .same),
+            ∙ ap result (ap (λ (d : List Instruction). run σ p d (stackOf re im h)) (sym e) ∙ st .same),
       )

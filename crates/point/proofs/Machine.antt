@@ -12,7 +12,7 @@ use Rattle.point.specs.declared.eval.Instruction.the-variants.{Eml}
 use Rattle.point.specs.declared.eval.EvaluatedComplex.{EvaluatedComplex}
 use Rattle.point.specs.declared.eval.EvaluatedComplex.the-variants.{Value, Failed}
 use Rattle.point.specs.Eval.{emlComplex, evalComplex, andThen}
-use Rattle.point.specs.Machine.{postorder, Stack, pushed, reduced, step, onwards, run, result, Room}
+use Rattle.point.specs.Machine.{postorder, Stack, pushed, reduced, step, onwards, run, result, Balanced}
 
 pub positive : (t : Tree) → 1 ≤ size t
 unfolding size
@@ -59,33 +59,33 @@ module _ (σ : Settings) (p : List Float) where
   answers t is e = ap (λ (c : List Instruction). result (run σ p c [])) (e ∙ sym (append-nil (postorder t))) ∙ ap result (run-postorder t [] []) ∙ result-of (evalComplex σ p t)
 
 -- the tree's depth bounds the stack
-deep : (cap h : ℕ) (t : Tree) (is : List Instruction) → h + depth t ≤ cap → Room cap (h + 1) is → Room cap h (postorder t ++ is)
-unfolding Room postorder depth
+deep : (cap h : ℕ) (t : Tree) (is : List Instruction) → h + depth t ≤ cap → Balanced cap (h + 1) is → Balanced cap h (postorder t ++ is)
+unfolding Balanced postorder depth
 deep cap h Tree.One is d r = (omega arith, r)
 deep cap h (Tree.Const v) is d r = (omega arith, r)
 deep cap h (Tree.Var i) is d r = (omega arith, r)
 deep cap h (Tree.Eml a b) is d r =
-    subst (Room cap h) (sym (joined a b is))
+    subst (Balanced cap h) (sym (joined a b is))
     (deep cap h a (postorder b ++ (Eml ∷ is)) (omega arith)
     (deep cap (h + 1) b (Eml ∷ is) (omega arith)
-    (omega arith, subst (λ (k : ℕ). Room cap k is) (omega arith) r)))
+    (omega arith, subst (λ (k : ℕ). Balanced cap k is) (omega arith) r)))
 
-pub room-for-deep : (cap : ℕ) (t : Tree) (is : List Instruction) → is ≡ postorder t → depth t ≤ cap → Room cap 0 is
-unfolding Room
-room-for-deep cap t is e d = subst (Room cap 0) (append-nil (postorder t) ∙ sym e) (deep cap 0 t [] (omega arith) refl)
+pub balanced-deep : (cap : ℕ) (t : Tree) (is : List Instruction) → is ≡ postorder t → depth t ≤ cap → Balanced cap 0 is
+unfolding Balanced
+balanced-deep cap t is e d = subst (Balanced cap 0) (append-nil (postorder t) ∙ sym e) (deep cap 0 t [] (omega arith) refl)
 
 -- and so does the number of its leaves, half of its size rounded up
-long : (cap h : ℕ) (t : Tree) (is : List Instruction) → 2 * h + size t + 1 ≤ 2 * cap → Room cap (h + 1) is → Room cap h (postorder t ++ is)
-unfolding Room postorder size
+long : (cap h : ℕ) (t : Tree) (is : List Instruction) → 2 * h + size t + 1 ≤ 2 * cap → Balanced cap (h + 1) is → Balanced cap h (postorder t ++ is)
+unfolding Balanced postorder size
 long cap h Tree.One is d r = (omega arith, r)
 long cap h (Tree.Const v) is d r = (omega arith, r)
 long cap h (Tree.Var i) is d r = (omega arith, r)
 long cap h (Tree.Eml a b) is d r =
-    subst (Room cap h) (sym (joined a b is))
+    subst (Balanced cap h) (sym (joined a b is))
     (long cap h a (postorder b ++ (Eml ∷ is)) (omega arith)
     (long cap (h + 1) b (Eml ∷ is) (omega (arith, positive a))
-    (omega arith, subst (λ (k : ℕ). Room cap k is) (omega arith) r)))
+    (omega arith, subst (λ (k : ℕ). Balanced cap k is) (omega arith) r)))
 
-pub room-for-long : (cap : ℕ) (t : Tree) (is : List Instruction) → is ≡ postorder t → size t < 2 * cap → Room cap 0 is
-unfolding Room
-room-for-long cap t is e d = subst (Room cap 0) (append-nil (postorder t) ∙ sym e) (long cap 0 t [] (omega arith) refl)
+pub balanced-long : (cap : ℕ) (t : Tree) (is : List Instruction) → is ≡ postorder t → size t < 2 * cap → Balanced cap 0 is
+unfolding Balanced
+balanced-long cap t is e d = subst (Balanced cap 0) (append-nil (postorder t) ∙ sym e) (long cap 0 t [] (omega arith) refl)

@@ -1,76 +1,78 @@
--- The residual, by the constraints that a record takes. Assumes nothing.
-use Prim.Native.Nat.{ℕ, _-_}
-use mathlib.Core.Path.{_≡_, refl, sym, ap, _∙_}
-use mathlib.Core.Bool.{true, false}
+-- The residual, by the constraints that a record takes and by a quantifier's samples. Assumes nothing.
+use Prim.Native.Nat.{ℕ, _-_, _+_, _<_, _≤_}
+use mathlib.Core.Path.{_≡_, refl, sym, ap, ap₂, _∙_}
+use mathlib.Core.Bool.{Bool, true, false}
 use mathlib.Core.List.{List, [], _∷_, _++_}
-use lib.Ieee.{Float, binary64}
-use lib.ListN.{getD, set}
-use Rattle.number.specs.Notation.{if_then_else_, _⊕_, _≺_, bits, whole, +∞}
-use Rattle.number.specs.Literals.{zero-is, one-is}
+use lib.Ieee.{Float, nan}
+use lib.ListN.{getD, set, drop}
 use Rattle.number.specs.Sign.{absOf}
-use Rattle.number.specs.MaxMin.{maxOf, minOf}
-use Rattle.number.specs.Halving.{mid}
 use Rattle.settings.specs.declared.Settings.{Settings}
-use Rattle.constraint.specs.Constraint.{Constraint, Not, ForAll, Exists}
+use Rattle.constraint.specs.Constraint.{Constraint}
 use Rattle.constraint.specs.Records.{constraintAt, gather}
 use Rattle.constraint.specs.Starts.{Taken, upTo}
 use Rattle.constraint.specs.RecordLaws.{none-taken, up-to}
-use Rattle.point.specs.Residual.{residual, residualSum, residualLeast}
-use Rattle.point.proofs.Threshold.{threshold-is}
+use Rattle.point.specs.Residual.{residual, residuals}
+use Rattle.point.specs.Code.{joined, quantified, samplesOf, residualOfNone, oneMore, sampleMore}
+use Rattle.point.proofs.Sampling.{sample-next, no-sample}
 
+-- ---- the last m before record n: none, or those before the last, and the last
 module _ (σ : Settings) (p : List Float) where
-  sum-snoc : (cs : List Constraint) (c : Constraint) (sum : Float) → residualSum σ p sum (gather (cs ++ c ∷ [])) ≡ residualSum σ p sum (gather cs) ⊕ absOf (residual σ p c)
-  unfolding gather residualSum
-  sum-snoc [] c sum = refl
-  sum-snoc (x ∷ cs) c sum = sum-snoc cs c (sum ⊕ absOf (residual σ p x))
+  residuals-last : (f : Float → Float → Float) (x : Float) (cs : List Constraint) (c : Constraint) →
+      residuals σ p f x (gather (cs ++ c ∷ [])) ≡ f (residuals σ p f x (gather cs)) (absOf (residual σ p c))
+  unfolding gather residuals
+  residuals-last f x [] c = refl
+  residuals-last f x (d ∷ cs) c = residuals-last f (f x (absOf (residual σ p d))) cs c
 
-  least-snoc : (cs : List Constraint) (c : Constraint) (least : Float) → residualLeast σ p least (gather (cs ++ c ∷ [])) ≡ minOf (residualLeast σ p least (gather cs)) (absOf (residual σ p c))
-  unfolding gather residualLeast
-  least-snoc [] c least = refl
-  least-snoc (x ∷ cs) c least = least-snoc cs c (minOf least (absOf (residual σ p x)))
+  module _ (any : Bool) where
+    abbrev each : List Constraint → Float
+    each cs = residual σ p (joined any (gather cs))
 
-  -- the last m before record n: none, or those before the last, and the last
-  module _ (nodes b : List ℕ) (m n : ℕ) (starts : List ℕ) (q : Taken nodes b m n starts) where
-    pub sum-of-none : m ≡ 0 → bits 0 ≡ residualSum σ p (whole 0) (gather (upTo nodes b m n))
-    unfolding gather residualSum
-    sum-of-none e = sym (ap (λ (cs : List Constraint). residualSum σ p (whole 0) (gather cs)) (none-taken nodes b m n starts q e) ∙ zero-is)
-
-    pub least-of-none : m ≡ 0 → +∞ ≡ residualLeast σ p +∞ (gather (upTo nodes b m n))
-    unfolding gather residualLeast
-    least-of-none e = sym (ap (λ (cs : List Constraint). residualLeast σ p +∞ (gather cs)) (none-taken nodes b m n starts q e))
-
-    module _ (h : m ≡ 0 → ⊥) (s : ℕ) (e : s ≡ getD starts (n - 1) 0) (before last size : Float) (r : last ≡ residual σ p (constraintAt nodes b (n - 1))) (a : size ≡ absOf last) where
-      pub sum-of-more : before ≡ residualSum σ p (whole 0) (gather (upTo nodes b (m - 1) s)) → before ⊕ size ≡ residualSum σ p (whole 0) (gather (upTo nodes b m n))
-      sum-of-more w =
-          let u = ap (λ (cs : List Constraint). residualSum σ p (whole 0) (gather cs)) (up-to nodes b m n starts q h s e) ∙ sum-snoc (upTo nodes b (m - 1) s) (constraintAt nodes b (n - 1)) (whole 0) in
-          cc
-
-      pub least-of-more : (least : Float) → before ≡ residualLeast σ p +∞ (gather (upTo nodes b (m - 1) s)) → least ≡ minOf before size → least ≡ residualLeast σ p +∞ (gather (upTo nodes b m n))
-      least-of-more least w z =
-          let u = ap (λ (cs : List Constraint). residualLeast σ p +∞ (gather cs)) (up-to nodes b m n starts q h s e) ∙ least-snoc (upTo nodes b (m - 1) s) (constraintAt nodes b (n - 1)) +∞ in
-          cc
-
--- ---- Not, by 1e-12
-module _ (σ : Settings) (p : List Float) (c : Constraint) (r : Float) (e : r ≡ residual σ p c) where
-  pub not-met : (r ≺ bits 0x3d71_9799_812d_ea11) ≡ true → bits 0x3ff0_0000_0000_0000 ≡ residual σ p (Not c)
-  unfolding residual if_then_else_
-  not-met t = simp (threshold-is, sym e, t, one-is)
-
-  pub not-missed : (r ≺ bits 0x3d71_9799_812d_ea11) ≡ false → bits 0 ≡ residual σ p (Not c)
-  unfolding residual if_then_else_
-  not-missed t = simp (threshold-is, sym e, t, zero-is)
-
--- ---- a quantifier's three samples
-module _ (σ : Settings) (p : List Float) (v : ℕ) (lo hi : Float) (c : Constraint) (middle first second third : Float) (w : middle ≡ mid binary64 lo hi) (f : first ≡ absOf (residual σ (set p v lo) c)) (g : second ≡ absOf (residual σ (set p v middle) c)) (h : third ≡ absOf (residual σ (set p v hi) c)) where
-  at-middle : second ≡ absOf (residual σ (set p v (mid binary64 lo hi)) c)
-  at-middle = g ∙ ap (λ (x : Float). absOf (residual σ (set p v x) c)) w
-
-  -- x, y and z are the greatest, or the least, of the first, of the first two, and of all
-  module _ (x y z : Float) where
-    pub greatest : x ≡ maxOf (bits 0) first → y ≡ maxOf x second → z ≡ maxOf y third → z ≡ residual σ p (ForAll v lo hi c)
+    each-is : (cs : List Constraint) → each cs ≡ residuals σ p (oneMore any) (residualOfNone any) (gather cs)
     unfolding residual
-    greatest i j k = let m = at-middle in let u = zero-is in cc
+    each-is cs = go any
+      where
+        go : (a : Bool) → residual σ p (joined a (gather cs)) ≡ residuals σ p (oneMore a) (residualOfNone a) (gather cs)
+        go false = refl
+        go true = refl
 
-    pub least : x ≡ minOf +∞ first → y ≡ minOf x second → z ≡ minOf y third → z ≡ residual σ p (Exists v lo hi c)
-    unfolding residual
-    least i j k = let m = at-middle in cc
+    each-last : (cs : List Constraint) (c : Constraint) → each (cs ++ c ∷ []) ≡ oneMore any (each cs) (absOf (residual σ p c))
+    each-last cs c =
+        each-is (cs ++ c ∷ []) ∙ residuals-last (oneMore any) (residualOfNone any) cs c
+        ∙ ap (λ (x : Float). oneMore any x (absOf (residual σ p c))) (sym (each-is cs))
+
+    module _ (nodes b : List ℕ) (m n : ℕ) (starts : List ℕ) (q : Taken nodes b m n starts) where
+      pub each-of-none : m ≡ 0 → residualOfNone any ≡ each (upTo nodes b m n)
+      unfolding gather residuals
+      each-of-none e = sym (ap each (none-taken nodes b m n starts q e) ∙ each-is [])
+
+      pub each-of-more : (m ≡ 0 → ⊥) → (s : ℕ) → s ≡ getD starts (n - 1) 0 → (before r : Float) → before ≡ each (upTo nodes b (m - 1) s) → r ≡ residual σ p (constraintAt nodes b (n - 1)) →
+          oneMore any before (absOf r) ≡ each (upTo nodes b m n)
+      each-of-more h s e before r w z =
+          ap₂ (λ (x y : Float). oneMore any x (absOf y)) w z
+          ∙ sym (ap each (up-to nodes b m n starts q h s e) ∙ each-last (upTo nodes b (m - 1) s) (constraintAt nodes b (n - 1)))
+
+-- ---- a quantifier's samples: those that are left, after x
+abbrev pub after : (Float → Float → Float) → (Float → Float) → Float → List Float → Float
+after f g x [] = x
+after f g x (y ∷ ys) = after f g (f x (absOf (g y))) ys
+
+module _ (σ : Settings) (p : List Float) (v : ℕ) (lo hi : Float) (c : Constraint) (any : Bool) where
+  abbrev at : Float → Float
+  at x = residual σ (set p v x) c
+
+  pub all-left : after (sampleMore any) at (residualOfNone any) (samplesOf lo hi) ≡ residual σ p (quantified any v lo hi c)
+  unfolding residual
+  all-left = go any
+    where
+      go : (a : Bool) → after (sampleMore a) at (residualOfNone a) (samplesOf lo hi) ≡ residual σ p (quantified a v lo hi c)
+      go false = refl
+      go true = refl
+
+  module _ {samples : List Float} (e : samples ≡ samplesOf lo hi) (i : ℕ) (value : Float) (w : after (sampleMore any) at value (drop i samples) ≡ residual σ p (quantified any v lo hi c)) where
+    pub none-left : 3 ≤ i → value ≡ residual σ p (quantified any v lo hi c)
+    none-left h = sym (ap (after (sampleMore any) at value) (no-sample e i h)) ∙ w
+
+    pub one-left : i < 3 → (r next : Float) → r ≡ at (getD samples i nan) → next ≡ sampleMore any value (absOf r) → after (sampleMore any) at next (drop (i + 1) samples) ≡ residual σ p (quantified any v lo hi c)
+    one-left h r next f g =
+        ap (λ (x : Float). after (sampleMore any) at x (drop (i + 1) samples)) (g ∙ ap (λ (x : Float). sampleMore any value (absOf x)) f)
+        ∙ sym (ap (after (sampleMore any) at value) (sample-next e i h)) ∙ w

@@ -1,14 +1,15 @@
--- The calls on records given without a file: the answer with document 01's own settings, or document 01's number of a refusal. The records
--- are tested in the reader's order, then 9 for a point of over 16 values.
+-- The calls on records given without a file: the answer with the settings σ, or document 01's number of a refusal. The records are
+-- tested in the reader's order, then 9 for a point of over 16 values. Document 01's own calls are these with its own settings.
 use Prim.Native.Nat.{ℕ, zero, suc, _/_, _%_}
 use mathlib.Core.List.{List}
 use lib.Dec.{leb, ltb, eqb}
 use lib.Ieee.{Float}
 use lib.ListN.{length}
 use Rattle.number.specs.Notation.{if_then_else_}
-use Rattle.settings.specs.Settings.{usual}
-use Rattle.tree.specs.Refusal.{_or-else_, _unless_}
+use Rattle.settings.specs.declared.Settings.{Settings}
+use Rattle.record.specs.Refusal.{_or-else_, _unless_}
 use Rattle.tree.specs.Nodes.{treeAt, listRefusal}
+use Rattle.constraint.specs.Constraint.{Constraint}
 use Rattle.file.specs.File.{Read, Refused, Accepted, readGiven}
 use Rattle.point.specs.declared.EvalAnswer.{EvalAnswer}
 use Rattle.point.specs.declared.CheckAnswer.{CheckAnswer}
@@ -31,34 +32,16 @@ evalBy (suc r) x = EvalAnswer.Refused (suc r)
 evalBy zero (Evaluated.Value v) = EvalAnswer.Value v
 evalBy zero (Evaluated.Failed e) = EvalAnswer.Failed e
 
-unfoldable pub evalAnswer : List ℕ → ℕ → List Float → EvalAnswer
-evalAnswer nodes k p = evalBy (evalRefusal nodes k p) (evalReal usual p (treeAt nodes k))
+unfoldable pub evalAnswer : Settings → List ℕ → ℕ → List Float → EvalAnswer
+evalAnswer σ nodes k p = evalBy (evalRefusal nodes k p) (evalReal σ p (treeAt nodes k))
 
--- ---- the constraint of node records and constraint records
-abbrev pub checkedBy : List Float → Read → CheckAnswer
-checkedBy p (Refused r) = CheckAnswer.Refused r
-checkedBy p (Accepted c bounds) = if leb (length p) 16 then CheckAnswer.Checked (check usual p c) else CheckAnswer.Refused 9
+-- ---- the constraint of node records and constraint records, at a point
+abbrev pub pointed : {A : Type 0} → List Float → (ℕ → A) → (Constraint → A) → Read → A
+pointed p refuse answer (Refused r) = refuse r
+pointed p refuse answer (Accepted c bounds) = if leb (length p) 16 then answer c else refuse 9
 
-unfoldable pub checkAnswer : List ℕ → List ℕ → List Float → CheckAnswer
-checkAnswer nodes b p = checkedBy p (readGiven nodes b)
+unfoldable pub checkAnswer : Settings → List ℕ → List ℕ → List Float → CheckAnswer
+checkAnswer σ nodes b p = pointed p CheckAnswer.Refused (λ c. CheckAnswer.Checked (check σ p c)) (readGiven nodes b)
 
-abbrev pub residualBy : List Float → Read → ResidualAnswer
-residualBy p (Refused r) = ResidualAnswer.Refused r
-residualBy p (Accepted c bounds) = if leb (length p) 16 then ResidualAnswer.Residual (residual usual p c) else ResidualAnswer.Refused 9
-
-unfoldable pub residualAnswer : List ℕ → List ℕ → List Float → ResidualAnswer
-residualAnswer nodes b p = residualBy p (readGiven nodes b)
-
--- ---- document 01's number of each answer: its refusal, and 0 where there is none
-abbrev pub evalNumber : EvalAnswer → ℕ
-evalNumber (EvalAnswer.Refused r) = r
-evalNumber (EvalAnswer.Value v) = 0
-evalNumber (EvalAnswer.Failed e) = 0
-
-abbrev pub checkNumber : CheckAnswer → ℕ
-checkNumber (CheckAnswer.Refused r) = r
-checkNumber (CheckAnswer.Checked b) = 0
-
-abbrev pub residualNumber : ResidualAnswer → ℕ
-residualNumber (ResidualAnswer.Refused r) = r
-residualNumber (ResidualAnswer.Residual x) = 0
+unfoldable pub residualAnswer : Settings → List ℕ → List ℕ → List Float → ResidualAnswer
+residualAnswer σ nodes b p = pointed p ResidualAnswer.Refused (λ c. ResidualAnswer.Residual (residual σ p c)) (readGiven nodes b)

@@ -6,5 +6,5 @@ use Rattle.point.specs.Check
 use Rattle.point.specs.Residual
 
 unfoldable pub computing : Unit {0}
-unfolding Below.computing Settings.usual Eval.clamped Eval.beyond Eval.numeric Eval.emlComplex Eval.variable Eval.evalComplex Eval.realPart Eval.evalReal Check.holds Check.check Residual.shortfall Residual.residual
+unfolding Below.computing Settings.usual Eval.clamped Eval.beyond Eval.numeric Eval.emlComplex Eval.variable Eval.evalComplex Eval.realPart Eval.evalReal Check.holds Check.check Residual.shortfall Residual.residualOfNot Residual.residual
 computing = tt

@@ -35,7 +35,9 @@ numeric z = if isNan (z .re) || isNan (z .im) then EvaluatedComplex.Failed NanEn
 -- exp l - ln r: exp's real argument is clamped, and where the settings are strict one beyond the clamp is an error
 unfoldable pub emlComplex : Settings → Complex → Complex → EvaluatedComplex
 emlComplex σ l r =
-    if σ .strict && beyond (σ .clamp) (l .re) then EvaluatedComplex.Failed (ExpOverflow (l .re)) else numeric (difference (complexExp (record { re = clamped (σ .clamp) (l .re); im = l .im })) (complexLn r))
+    if σ .strict && beyond (σ .clamp) (l .re)
+    then EvaluatedComplex.Failed (ExpOverflow (l .re))
+    else numeric (difference (complexExp (record { re = clamped (σ .clamp) (l .re); im = l .im })) (complexLn r))
 
 -- variable i, which the point may lack
 unfoldable pub variable : List Float → ℕ → EvaluatedComplex
@@ -55,7 +57,9 @@ evalComplex σ p (Tree.Eml l r) = andThen (evalComplex σ p l) λ a. andThen (ev
 -- at the end ComplexResult unless |im| < 1e-12
 unfoldable pub realPart : Complex → Evaluated
 realPart z =
-    if absOf (z .im) ≺ decimal 1 (10 ^ 12) then if isNan (z .re) then Evaluated.Failed NanEncountered else Evaluated.Value (z .re) else Evaluated.Failed (ComplexResult (absOf (z .im)))
+    if absOf (z .im) ≺ decimal 1 (10 ^ 12)
+    then if isNan (z .re) then Evaluated.Failed NanEncountered else Evaluated.Value (z .re)
+    else Evaluated.Failed (ComplexResult (absOf (z .im)))
 
 abbrev pub evaluated : EvaluatedComplex → Evaluated
 evaluated (EvaluatedComplex.Value z) = realPart z

@@ -1,35 +1,25 @@
--- Document 01's starred examples that concern points, and the edges of "Testing a point", computed.
+-- The edges of document 01's "Testing a point", computed.
 use mathlib.Core.Path.{_≡_, refl}
 use mathlib.Core.Bool.{true, false}
 use mathlib.Core.List.{[], _∷_}
 use lib.IntN.{negsuc}
 use lib.Ieee.{nan}
-use Rattle.number.specs.Notation.{bits, whole, integer, +∞}
+use Rattle.number.specs.Notation.{whole, integer, +∞}
 use Rattle.settings.specs.Settings.{usual}
 use Rattle.tree.specs.Tree.{Tree}
 use Rattle.constraint.specs.declared.Relation.{Relation}
-use Rattle.constraint.specs.Constraint.{Atom, Not, And, Or, ForAll, end}
-use Rattle.point.specs.declared.eval.EvalError.the-variants.{VarOutOfBounds, NanEncountered, ComplexResult}
-use Rattle.point.specs.declared.eval.Evaluated.the-variants.{Value, Failed}
+use Rattle.constraint.specs.Constraint.{Atom, Not, And, Or, end}
+use Rattle.point.specs.declared.eval.EvalError.the-variants.{VarOutOfBounds, NanEncountered}
+use Rattle.point.specs.declared.eval.Evaluated.the-variants.{Failed}
 use Rattle.point.specs.Eval.{evalReal}
 use Rattle.point.specs.Check.{check}
 use Rattle.point.specs.Residual.{residual}
 use Rattle.point.specs.Computing.{computing}
 
--- ---- Eml(Const 0, One) is 1; Eml(Const 0, Const -1) is ComplexResult of 400921FB54442D18
-
-eml-one : evalReal usual [] (Tree.Eml (Tree.Const (whole 0)) Tree.One) ≡ Value (whole 1)
-unfolding computing
-eml-one = refl
+-- ---- Not of EqZero of Eml(Const 0, Const -1), whose value is complex, passes, and its normal form does not
 
 abbrev turned : Tree
 turned = Tree.Eml (Tree.Const (whole 0)) (Tree.Const (integer (negsuc 0)))
-
-eml-turned : evalReal usual [] turned ≡ Failed (ComplexResult (bits 0x400921FB54442D18))
-unfolding computing
-eml-turned = refl
-
--- ---- Not of EqZero of the latter passes, and its normal form does not
 
 not-passes : check usual [] (Not (Atom Relation.EqZero turned)) ≡ true
 unfolding computing
@@ -38,12 +28,6 @@ not-passes = refl
 normal-form-fails : check usual [] (Atom Relation.NeZero turned) ≡ false
 unfolding computing
 normal-form-fails = refl
-
--- ---- ForAll v0 in [0,1] EqZero(One): best 1
-
-for-all-one : residual usual (whole 4 ∷ []) (ForAll 0 (whole 0) (whole 1) (Atom Relation.EqZero Tree.One)) ≡ whole 1
-unfolding computing
-for-all-one = refl
 
 -- ---- the first error in postorder; a NaN in the point is met at the end
 

@@ -2,7 +2,7 @@
 -- constraint. Assumes nothing.
 use Prim.Native.Nat.{_^_}
 use mathlib.Core.Path.{_≡_, refl, sym, subst}
-use mathlib.Core.Bool.{Bool, true, false, not}
+use mathlib.Core.Bool.{Bool, true, false}
 use mathlib.Core.List.{List}
 use native.Mathlib.Omega.{arith}
 use lib.Dec.{T}
@@ -25,7 +25,7 @@ use Rattle.point.specs.declared.eval.EvalError.the-variants.{NanEncounte
 use Rattle.point.specs.declared.eval.EvaluatedComplex.{EvaluatedComplex}
 use Rattle.point.specs.declared.eval.Evaluated.{Evaluated}
 use Rattle.point.specs.Eval.{evalComplex, realPart, evaluated, evalReal}
-use Rattle.point.specs.Residual.{shortfall, errorValue, valueOr, residual, residualSum, residualLeast}
+use Rattle.point.specs.Residual.{shortfall, errorValue, valueOr, residualOfNot, ofThree, residual, residuals}
 
 -- ---- eval_real never answers a NaN value
 
@@ -103,11 +103,17 @@ sum (fin s m e) (inf true) h k = unfold le in absurd k
 sum (fin s m e) (inf false) h k = unfold le in tt
 sum (fin s m e) (fin t n d) h k = add-mono binary64 naught naught (fin s m e) (fin t n d) tt tt tt tt h k
 
--- the greatest, of which one operand is not negative, and the least, of which both are
-greatest : (x y : Float) → NotNegative x → NotNegative (maxOf x y)
-greatest x y h = le-trans (whole 0) x (maxOf x y) h (max-laws .left x y (le-right (whole 0) x h))
+-- an operation on residuals that leads to nothing else
+abbrev Keeps : (Float → Float → Float) → Type 0
+Keeps f = (x y : Float) → NotNegative x → NotNegative y → NotNegative (f x y)
 
-least : (x y : Float) → NotNegative x → NotNegative y → NotNegative (minOf x y)
+adds : Keeps _⊕_
+adds x y h k = from (x ⊕ y) (sum x y (to x h) (to y k))
+
+greatest : Keeps maxOf
+greatest x y h k = le-trans (whole 0) x (maxOf x y) h (max-laws .left x y (le-right (whole 0) x h))
+
+least : Keeps minOf
 least x y h k = ≤min minOf min-laws x y (whole 0) h k
 
 chosen : (t : Bool) (x y : Float) → (t ≡ true → NotNegative x) → (t ≡ false → NotNegative y) → NotNegative (if t then x else y)
@@ -143,33 +149,25 @@ value-number rel (Evaluated.Failed e) n = error-number rel
 size : (x : Float) → NotNegative x → NotNegative (absOf x)
 size x h = magnitude x (le-right (whole 0) x h)
 
+of-three : (f : Float → Float → Float) → Keeps f → (x a b c : Float) → NotNegative x → NotNegative a → NotNegative b → NotNegative c → NotNegative (ofThree f x a b c)
+of-three f keeps x a b c g h k l = keeps _ _ (keeps _ _ (keeps _ _ g (size a h)) (size b k)) (size c l)
+
 mutual
-  unfolding residual
+  unfolding residual residualOfNot
 
   pub residual-not-negative : (σ : Settings) (p : List Float) (c : Constraint) → NotNegative (residual σ p c)
   residual-not-negative σ p (Atom rel t) = shortfall-not-negative rel (valueOr (errorValue rel) (evalReal σ p t)) (value-number rel (evalReal σ p t) (eval-numeric σ p t))
   residual-not-negative σ p (Not c) = chosen (residual σ p c ≺ decimal 1 (10 ^ 12)) (whole 1) (whole 0) (λ t. one) (λ t. zero)
-  residual-not-negative σ p (And cs) = sum-not-negative σ p (whole 0) cs zero
-  residual-not-negative σ p (Or cs) = least-not-negative σ p +∞ cs infinity
+  residual-not-negative σ p (And cs) = residuals-not-negative σ p _⊕_ adds (whole 0) cs zero
+  residual-not-negative σ p (Or cs) = residuals-not-negative σ p minOf least +∞ cs infinity
   residual-not-negative σ p (ForAll v lo hi c) =
-      let a = absOf (residual σ (set p v lo) c) in
-      let b = absOf (residual σ (set p v (mid binary64 lo hi)) c) in
-      greatest (maxOf (maxOf (whole 0) a) b) (absOf (residual σ (set p v hi) c)) (greatest (maxOf (whole 0) a) b (greatest (whole 0) a zero))
+      of-three maxOf greatest (whole 0) _ _ _ zero (residual-not-negative σ (set p v lo) c) (residual-not-negative σ (set p v (mid binary64 lo hi)) c) (residual-not-negative σ (set p v hi) c)
   residual-not-negative σ p (Exists v lo hi c) =
-      let a = size (residual σ (set p v lo) c) (residual-not-negative σ (set p v lo) c) in
-      let b = size (residual σ (set p v (mid binary64 lo hi)) c) (residual-not-negative σ (set p v (mid binary64 lo hi)) c) in
-      let d = size (residual σ (set p v hi) c) (residual-not-negative σ (set p v hi) c) in
-      least _ _ (least _ _ (least _ _ infinity a) b) d
+      of-three minOf least +∞ _ _ _ infinity (residual-not-negative σ (set p v lo) c) (residual-not-negative σ (set p v (mid binary64 lo hi)) c) (residual-not-negative σ (set p v hi) c)
 
-  sum-not-negative : (σ : Settings) (p : List Float) (s : Float) (cs : Constraints) → NotNegative s → NotNegative (residualSum σ p s cs)
-  sum-not-negative σ p s end h = h
-  sum-not-negative σ p s (c ⨾ cs) h =
-      let r = absOf (residual σ p c) in
-      sum-not-negative σ p (s ⊕ r) cs (from (s ⊕ r) (sum s r (to s h) (to r (size (residual σ p c) (residual-not-negative σ p c)))))
-
-  least-not-negative : (σ : Settings) (p : List Float) (l : Float) (cs : Constraints) → NotNegative l → NotNegative (residualLeast σ p l cs)
-  least-not-negative σ p l end h = h
-  least-not-negative σ p l (c ⨾ cs) h = least-not-negative σ p (minOf l (absOf (residual σ p c))) cs (least l (absOf (residual σ p c)) h (size (residual σ p c) (residual-not-negative σ p c)))
+  residuals-not-negative : (σ : Settings) (p : List Float) (f : Float → Float → Float) → Keeps f → (x : Float) (cs : Constraints) → NotNegative x → NotNegative (residuals σ p f x cs)
+  residuals-not-negative σ p f keeps x end h = h
+  residuals-not-negative σ p f keeps x (c ⨾ cs) h = residuals-not-negative σ p f keeps _ cs (keeps x (absOf (residual σ p c)) h (size (residual σ p c) (residual-not-negative σ p c)))
 
 pub residual-not-nan : (σ : Settings) (p : List Float) (c : Constraint) → T (number (residual σ p c))
 residual-not-nan σ p c = le-right (whole 0) (residual σ p c) (residual-not-negative σ p c)

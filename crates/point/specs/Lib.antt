@@ -1,8 +1,9 @@
-pub mod Lent
+pub mod Room
 pub mod Eval
 pub mod Machine
 pub mod Check
 pub mod Residual
+pub mod Code
 pub mod Answer
 pub mod Laws
 pub mod Computing

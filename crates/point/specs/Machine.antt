@@ -3,7 +3,7 @@ use Prim.Native.Nat.{ℕ, _<_, _≤_, _+_, _-_, _*_}
 use mathlib.Core.Path.{_≡_}
 use mathlib.Core.List.{List, [], _∷_, _++_, map}
 use lib.ListN.{length, getD, take}
-use lib.Ieee.{Float}
+use lib.Ieee.{Float, nan}
 use Rattle.number.specs.Notation.{whole}
 use Rattle.maths.specs.declared.Complex.{Complex}
 use Rattle.settings.specs.declared.Settings.{Settings}
@@ -66,6 +66,10 @@ result (holding []) = Failed NanEncountered
 result (holding (z ∷ s)) = Value z
 result (stopped e) = Failed e
 
+-- the stack's value at a place, by its parts
+abbrev pub valueAt : List Float → List Float → ℕ → Complex
+valueAt re im i = record { re = getD re i nan; im = getD im i nan }
+
 -- ---- the stack's height: from h on, the instructions find what they take, never fill more than cap places, and leave one value
 abbrev pub Fit : ℕ → ℕ → Instruction → Type 0
 Fit cap h PushOne = h < cap
@@ -79,9 +83,9 @@ height h (PushConst v) = h + 1
 height h (PushVar i) = h + 1
 height h Eml = h - 1
 
-unfoldable pub Room : ℕ → ℕ → List Instruction → Type 0
-Room cap h [] = h ≡ 1
-Room cap h (i ∷ is) = Fit cap h i × Room cap (height h i) is
+unfoldable pub Balanced : ℕ → ℕ → List Instruction → Type 0
+Balanced cap h [] = h ≡ 1
+Balanced cap h (i ∷ is) = Fit cap h i × Balanced cap (height h i) is
 
 -- ---- a list of node numbers, as instructions
 abbrev pub instructions : List ℕ → List ℕ → ℕ → List Instruction
@@ -102,4 +106,4 @@ pub record Runs (nodes order : List ℕ) (n : ℕ) (re im : List Float) : Type 0
   pub within : n ≤ length order
   pub numbers : Numbers nodes order n
   pub same : length im ≡ length re
-  pub room : Room (length re) 0 (instructions nodes order n)
+  pub balanced : Balanced (length re) 0 (instructions nodes order n)

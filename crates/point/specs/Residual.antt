@@ -35,23 +35,27 @@ abbrev pub valueOr : Float → Evaluated → Float
 valueOr other (Evaluated.Value v) = v
 valueOr other (Evaluated.Failed e) = other
 
+-- Not's, by the residual of what it denies
+unfoldable pub residualOfNot : Float → Float
+residualOfNot r = if r ≺ decimal 1 (10 ^ 12) then whole 1 else whole 0
+
+-- three residuals in order, from x on
+abbrev pub ofThree : (Float → Float → Float) → Float → Float → Float → Float → Float
+ofThree f x a b c = f (f (f x (absOf a)) (absOf b)) (absOf c)
+
 -- And adds up from +0 in the written order, Or takes the least from +∞, and the quantifiers the greatest from 0 and the least from +∞ of
 -- their three samples
 unfoldable mutual
   pub residual : Settings → List Float → Constraint → Float
   residual σ p (Atom rel t) = shortfall rel (valueOr (errorValue rel) (evalReal σ p t))
-  residual σ p (Not c) = if residual σ p c ≺ decimal 1 (10 ^ 12) then whole 1 else whole 0
-  residual σ p (And cs) = residualSum σ p (whole 0) cs
-  residual σ p (Or cs) = residualLeast σ p +∞ cs
+  residual σ p (Not c) = residualOfNot (residual σ p c)
+  residual σ p (And cs) = residuals σ p _⊕_ (whole 0) cs
+  residual σ p (Or cs) = residuals σ p minOf +∞ cs
   residual σ p (ForAll v lo hi c) =
-      maxOf (maxOf (maxOf (whole 0) (absOf (residual σ (set p v lo) c))) (absOf (residual σ (set p v (mid binary64 lo hi)) c))) (absOf (residual σ (set p v hi) c))
+      ofThree maxOf (whole 0) (residual σ (set p v lo) c) (residual σ (set p v (mid binary64 lo hi)) c) (residual σ (set p v hi) c)
   residual σ p (Exists v lo hi c) =
-      minOf (minOf (minOf +∞ (absOf (residual σ (set p v lo) c))) (absOf (residual σ (set p v (mid binary64 lo hi)) c))) (absOf (residual σ (set p v hi) c))
+      ofThree minOf +∞ (residual σ (set p v lo) c) (residual σ (set p v (mid binary64 lo hi)) c) (residual σ (set p v hi) c)
 
-  pub residualSum : Settings → List Float → Float → Constraints → Float
-  residualSum σ p sum end = sum
-  residualSum σ p sum (c ⨾ cs) = residualSum σ p (sum ⊕ absOf (residual σ p c)) cs
-
-  pub residualLeast : Settings → List Float → Float → Constraints → Float
-  residualLeast σ p least end = least
-  residualLeast σ p least (c ⨾ cs) = residualLeast σ p (minOf least (absOf (residual σ p c))) cs
+  pub residuals : Settings → List Float → (Float → Float → Float) → Float → Constraints → Float
+  residuals σ p f x end = x
+  residuals σ p f x (c ⨾ cs) = residuals σ p f (f x (absOf (residual σ p c))) cs

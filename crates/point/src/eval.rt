@@ -4,14 +4,15 @@ use settings::Settings;
 use tree::Node;
 ghost use mathlib.Core.Path.{_≡_};
 ghost use mathlib.Core.List.{[]};
-ghost use Prim.Native.Nat.{_≤_, _+_};
+ghost use Prim.Native.Nat.{_<_, _≤_, _+_};
 ghost use lib.ListN.{length};
 ghost use lib.Ieee.{isNan};
 ghost use Rattle.tree.specs.Tree.{size};
 ghost use Rattle.tree.specs.Nodes.{Valid, treeAt};
-ghost use Rattle.point.specs.Eval.{clamped, beyond, emlComplex, evalComplex, realPart, evalReal};
-ghost use Rattle.point.specs.Machine.{instructionOf, instructions, Flattened, Runs, run as running, result};
-ghost use Rattle.tree.specs.Views.{treeOf};
+ghost use Rattle.point.specs.Eval.{real as realOf, clamped, beyond, emlComplex, variable as variableOf, evalComplex, realPart, evalReal};
+ghost use Rattle.point.specs.Machine.{instructionOf, instructions, valueAt, Flattened, Runs, run as running, result};
+ghost use Rattle.tree.specs.Views.{theTree};
+ghost use Rattle.record.specs.Views.{old, final};
 
 pub enum Instruction {
     PushOne,
@@ -52,17 +53,17 @@ fn instruction_of(node: Node) -> Instruction
 }
 
 // Writes the postorder of node k's tree into order, from `at` on. Returns the place after it.
-fn flatten_postorder(nodes: &[u8], k: usize, order: &mut [u16], at: usize) -> usize
+fn flatten_postorder(nodes: &[u8], k: usize, at: usize, order: &mut [u16]) -> usize
     requires { ⌜ Valid (now nodes) (k + 1) ⌝ }
     requires { ⌜ at + size (treeAt (now nodes) k) ≤ length (now order) ⌝ }
-    ensures { λ r. ⌜ Flattened (now (nodes .entry)) (now (order .entry)) (now (order .exit)) at r (treeOf nodes k) ⌝ }
+    ensures { λ r. ⌜ Flattened (old nodes) (old order) (final order) at r (theTree nodes k) ⌝ }
 {
     let Node::Eml(left, right) = tree::node_in(nodes, k) else {
         order[at] = k as u16;
         return at + 1;
     };
-    let middle = flatten_postorder(nodes, left, order, at);
-    let end = flatten_postorder(nodes, right, order, middle);
+    let middle = flatten_postorder(nodes, left, at, order);
+    let end = flatten_postorder(nodes, right, middle, order);
     order[end] = k as u16;
     end + 1
 }
@@ -92,7 +93,7 @@ fn is_beyond(x: f64, most: f64) -> bool
 }
 
 // exp(left) - ln(right)
-fn eml_complex(left: Complex, right: Complex, settings: Settings) -> EvaluatedComplex
+fn eml_complex(settings: Settings, left: Complex, right: Complex) -> EvaluatedComplex
     ensures { λ x. ⌜ x ≡ emlComplex settings left right ⌝ }
 {
     if settings.strict & is_beyond(left.re, settings.clamp) {
@@ -115,10 +116,30 @@ fn eml_complex(left: Complex, right: Complex, settings: Settings) -> EvaluatedCo
     EvaluatedComplex::Value(Complex { re, im })
 }
 
-fn complex(re: f64, im: f64) -> Complex
-    ensures { λ z. ⌜ z ≡ record { re = re; im = im } ⌝ }
+fn real(x: f64) -> Complex
+    ensures { λ z. ⌜ z ≡ realOf x ⌝ }
 {
-    Complex { re, im }
+    Complex { re: x, im: 0.0 }
+}
+
+fn variable(i: usize, point: &[f64]) -> EvaluatedComplex
+    ensures { λ x. ⌜ x ≡ variableOf (old point) i ⌝ }
+{
+    if point.len() <= i {
+        return EvaluatedComplex::Failed(EvalError::VarOutOfBounds(i, point.len()));
+    }
+    EvaluatedComplex::Value(real(point[i]))
+}
+
+// The stack's value at place i.
+fn stacked(i: usize, re: &[f64], im: &[f64]) -> Complex
+    requires { ⌜ (i < length (now re)) × (i < length (now im)) ⌝ }
+    ensures { λ z. ⌜ z ≡ valueAt (old re) (old im) i ⌝ }
+{
+    Complex {
+        re: re[i],
+        im: im[i],
+    }
 }
 
 // Runs the instructions of the first n nodes of order. The stack's values have their parts in re and im.
@@ -126,52 +147,36 @@ fn run(
     nodes: &[u8],
     order: &[u16],
     n: usize,
-    point: &[f64],
     settings: Settings,
+    point: &[f64],
     re: &mut [f64],
     im: &mut [f64],
 ) -> EvaluatedComplex
     requires { ⌜ Runs (now nodes) (now order) n (now re) (now im) ⌝ }
-    ensures { λ x. ⌜ x ≡ result (running settings (now (point .entry)) (instructions (now (nodes .entry)) (now (order .entry)) n) []) ⌝ }
+    ensures { λ x. ⌜ x ≡ result (running settings (old point) (instructions (old nodes) (old order) n) []) ⌝ }
 {
     let mut top = 0;
     let mut j = 0;
     while j < n {
         let k = order[j] as usize;
         j += 1;
-        match instruction_of(tree::node_in(nodes, k)) {
-            Instruction::PushOne => {
-                re[top] = 1.0;
-                im[top] = 0.0;
-                top += 1;
-            }
-            Instruction::PushConst(v) => {
-                re[top] = v;
-                im[top] = 0.0;
-                top += 1;
-            }
-            Instruction::PushVar(i) => {
-                if point.len() <= i {
-                    return EvaluatedComplex::Failed(EvalError::VarOutOfBounds(i, point.len()));
-                }
-                re[top] = point[i];
-                im[top] = 0.0;
-                top += 1;
-            }
+        let out = match instruction_of(tree::node_in(nodes, k)) {
+            Instruction::PushOne => EvaluatedComplex::Value(real(1.0)),
+            Instruction::PushConst(v) => EvaluatedComplex::Value(real(v)),
+            Instruction::PushVar(i) => variable(i, point),
             Instruction::Eml => {
-                let right = complex(re[top - 1], im[top - 1]);
-                let left = complex(re[top - 2], im[top - 2]);
-                let out = eml_complex(left, right, settings);
-                let EvaluatedComplex::Value(z) = out else {
-                    return out;
-                };
-                re[top - 2] = z.re;
-                im[top - 2] = z.im;
-                top -= 1;
+                top -= 2;
+                eml_complex(settings, stacked(top, re, im), stacked(top + 1, re, im))
             }
-        }
+        };
+        let EvaluatedComplex::Value(z) = out else {
+            return out;
+        };
+        re[top] = z.re;
+        im[top] = z.im;
+        top += 1;
     }
-    EvaluatedComplex::Value(complex(re[0], im[0]))
+    EvaluatedComplex::Value(stacked(0, re, im))
 }
 
 // The order is lent, so that it is made once for many evaluations. The stack is made for each; most trees are short, and a short stack is
@@ -179,23 +184,23 @@ fn run(
 pub fn eval_complex(
     nodes: &[u8],
     k: usize,
-    point: &[f64],
     settings: Settings,
+    point: &[f64],
     order: &mut [u16],
 ) -> EvaluatedComplex
     requires { ⌜ Valid (now nodes) (k + 1) ⌝ }
     requires { ⌜ size (treeAt (now nodes) k) ≤ length (now order) ⌝ }
-    ensures { λ x. ⌜ x ≡ evalComplex settings (now (point .entry)) (treeOf nodes k) ⌝ }
+    ensures { λ x. ⌜ x ≡ evalComplex settings (old point) (theTree nodes k) ⌝ }
 {
-    let n = flatten_postorder(nodes, k, order, 0);
+    let n = flatten_postorder(nodes, k, 0, order);
     if n < 32 {
         let mut re = [0.0; 16];
         let mut im = [0.0; 16];
-        return run(nodes, order, n, point, settings, &mut re, &mut im);
+        return run(nodes, order, n, settings, point, &mut re, &mut im);
     }
     let mut re = [0.0; 128];
     let mut im = [0.0; 128];
-    run(nodes, order, n, point, settings, &mut re, &mut im)
+    run(nodes, order, n, settings, point, &mut re, &mut im)
 }
 
 fn real_part(z: Complex) -> Evaluated
@@ -214,15 +219,15 @@ fn real_part(z: Complex) -> Evaluated
 pub fn eval_real(
     nodes: &[u8],
     k: usize,
-    point: &[f64],
     settings: Settings,
+    point: &[f64],
     order: &mut [u16],
 ) -> Evaluated
     requires { ⌜ Valid (now nodes) (k + 1) ⌝ }
     requires { ⌜ size (treeAt (now nodes) k) ≤ length (now order) ⌝ }
-    ensures { λ x. ⌜ x ≡ evalReal settings (now (point .entry)) (treeOf nodes k) ⌝ }
+    ensures { λ x. ⌜ x ≡ evalReal settings (old point) (theTree nodes k) ⌝ }
 {
-    match eval_complex(nodes, k, point, settings, order) {
+    match eval_complex(nodes, k, settings, point, order) {
         EvaluatedComplex::Value(z) => real_part(z),
         EvaluatedComplex::Failed(e) => Evaluated::Failed(e),
     }

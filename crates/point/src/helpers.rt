@@ -7,25 +7,23 @@ use settings::Settings;
 ghost use mathlib.Core.Path.{_≡_};
 ghost use Prim.Native.Nat.{_≤_, _+_};
 ghost use lib.ListN.{length, take, set};
-ghost use lib.Ieee.{binary64};
-ghost use Rattle.number.specs.Notation.{whole, +∞};
 ghost use Rattle.number.specs.Sign.{absOf};
-ghost use Rattle.number.specs.Halving.{mid};
 ghost use Rattle.tree.specs.Tree.{size};
 ghost use Rattle.tree.specs.Nodes.{Valid, treeAt};
-ghost use Rattle.constraint.specs.Constraint.{ForAll, Exists};
+ghost use Rattle.tree.specs.Views.{theTree};
 ghost use Rattle.constraint.specs.Starts.{Ready, Taken};
+ghost use Rattle.constraint.specs.Views.{the, those};
+ghost use Rattle.point.specs.Room.{Room};
 ghost use Rattle.point.specs.Eval.{evalReal};
-ghost use Rattle.point.specs.Check.{holds as holdsOf, passes, check, checkAll, checkAny};
-ghost use Rattle.point.specs.Residual.{shortfall as shortfallOf, errorValue, valueOr, residual, residualSum, residualLeast};
-ghost use Rattle.point.specs.Lent.{Lent};
-ghost use Rattle.tree.specs.Views.{treeOf};
-ghost use Rattle.constraint.specs.Views.{those, the};
+ghost use Rattle.point.specs.Check.{holds as holdsOf, passes, check};
+ghost use Rattle.point.specs.Residual.{shortfall as shortfallOf, errorValue, valueOr, residualOfNot, residual};
+ghost use Rattle.point.specs.Code.{joined, quantified, samplesOf, residualOfNone, oneMore, sampleMore};
+ghost use Rattle.record.specs.Views.{old};
 
 // The point with variable v at x, in the first places.
-fn sampled(point: &[f64], v: usize, x: f64) -> [f64; 16]
+fn sampled(v: usize, x: f64, point: &[f64]) -> [f64; 16]
     requires { ⌜ length (now point) ≤ 16 ⌝ }
-    ensures { λ r. ⌜ take (length (now (point .entry))) r ≡ set (now (point .entry)) v x ⌝ }
+    ensures { λ r. ⌜ take (length (old point)) r ≡ set (old point) v x ⌝ }
 {
     let mut inner = [0.0; 16];
     let mut i = 0;
@@ -39,15 +37,16 @@ fn sampled(point: &[f64], v: usize, x: f64) -> [f64; 16]
     inner
 }
 
-fn middle(lo: f64, hi: f64) -> f64
-    ensures { λ r. ⌜ r ≡ mid binary64 lo hi ⌝ }
+// Where a quantifier tests its variable.
+fn samples(lo: f64, hi: f64) -> [f64; 3]
+    ensures { λ r. ⌜ r ≡ samplesOf lo hi ⌝ }
 {
-    (lo + hi) / 2.0
+    [lo, (lo + hi) / 2.0, hi]
 }
 
 // ---- the check
 
-fn holds(relation: Relation, v: f64, settings: Settings) -> bool
+fn holds(relation: Relation, settings: Settings, v: f64) -> bool
     ensures { λ r. ⌜ r ≡ holdsOf settings relation v ⌝ }
 {
     match relation {
@@ -64,16 +63,16 @@ fn check_atom(
     nodes: &[u8],
     relation: Relation,
     i: usize,
-    point: &[f64],
     settings: Settings,
+    point: &[f64],
     order: &mut [u16],
 ) -> bool
     requires { ⌜ Valid (now nodes) (i + 1) ⌝ }
     requires { ⌜ size (treeAt (now nodes) i) ≤ length (now order) ⌝ }
-    ensures { λ r. ⌜ r ≡ passes settings relation (evalReal settings (now (point .entry)) (treeOf nodes i)) ⌝ }
+    ensures { λ r. ⌜ r ≡ passes settings relation (evalReal settings (old point) (theTree nodes i)) ⌝ }
 {
-    match super::eval::eval_real(nodes, i, point, settings, order) {
-        Evaluated::Value(v) => holds(relation, v, settings),
+    match super::eval::eval_real(nodes, i, settings, point, order) {
+        Evaluated::Value(v) => holds(relation, settings, v),
         Evaluated::Failed(_) => false,
     }
 }
@@ -83,20 +82,40 @@ pub fn check_constraint(
     constraints: &[u8],
     starts: &[usize; 256],
     k: usize,
-    point: &[f64],
     settings: Settings,
+    point: &[f64],
     order: &mut [u16],
 ) -> bool
     requires { ⌜ Ready (now nodes) (now constraints) (k + 1) (now starts) ⌝ }
-    requires { ⌜ Lent (now nodes) (now point) (now order) ⌝ }
-    ensures { λ r. ⌜ r ≡ check settings (now (point .entry)) (the nodes constraints k) ⌝ }
+    requires { ⌜ Room (now nodes) (now point) (now order) ⌝ }
+    ensures { λ r. ⌜ r ≡ check settings (old point) (the nodes constraints k) ⌝ }
 {
     match constraint::record_in(constraints, k) {
-        Record::Atom(relation, i) => check_atom(nodes, relation, i, point, settings, order),
-        Record::Not => !check_constraint(nodes, constraints, starts, k - 1, point, settings, order),
-        Record::And(m) => check_all(nodes, constraints, starts, m, k, point, settings, order),
-        Record::Or(m) => check_any(nodes, constraints, starts, m, k, point, settings, order),
-        Record::ForAll(v, lo, hi) => check_for_all(
+        Record::Atom(relation, i) => check_atom(nodes, relation, i, settings, point, order),
+        Record::Not => !check_constraint(nodes, constraints, starts, k - 1, settings, point, order),
+        Record::And(m) => check_each(
+            nodes,
+            constraints,
+            starts,
+            m,
+            k,
+            settings,
+            false,
+            point,
+            order,
+        ),
+        Record::Or(m) => check_each(
+            nodes,
+            constraints,
+            starts,
+            m,
+            k,
+            settings,
+            true,
+            point,
+            order,
+        ),
+        Record::ForAll(v, lo, hi) => check_samples(
             nodes,
             constraints,
             starts,
@@ -104,11 +123,12 @@ pub fn check_constraint(
             v,
             lo,
             hi,
-            point,
             settings,
+            false,
+            point,
             order,
         ),
-        Record::Exists(v, lo, hi) => check_exists(
+        Record::Exists(v, lo, hi) => check_samples(
             nodes,
             constraints,
             starts,
@@ -116,153 +136,82 @@ pub fn check_constraint(
             v,
             lo,
             hi,
-            point,
             settings,
+            true,
+            point,
             order,
         ),
     }
 }
 
-// The last m constraints before record n, oldest first.
-fn check_all(
+// Of the last m constraints before record n, oldest first: with `any` whether one passes, else whether all do. Those after the one that
+// settles it are not looked at.
+fn check_each(
     nodes: &[u8],
     constraints: &[u8],
     starts: &[usize; 256],
     m: usize,
     n: usize,
-    point: &[f64],
     settings: Settings,
+    any: bool,
+    point: &[f64],
     order: &mut [u16],
 ) -> bool
     requires { ⌜ Taken (now nodes) (now constraints) m n (now starts) ⌝ }
-    requires { ⌜ Lent (now nodes) (now point) (now order) ⌝ }
-    ensures { λ r. ⌜ r ≡ checkAll settings (now (point .entry)) (those nodes constraints m n) ⌝ }
+    requires { ⌜ Room (now nodes) (now point) (now order) ⌝ }
+    ensures { λ r. ⌜ r ≡ check settings (old point) (joined any (those nodes constraints m n)) ⌝ }
 {
     if m == 0 {
-        return true;
+        return !any;
     }
     let last = n - 1;
     let s = starts[last];
-    if !check_all(nodes, constraints, starts, m - 1, s, point, settings, order) {
-        return false;
+    let before = check_each(
+        nodes,
+        constraints,
+        starts,
+        m - 1,
+        s,
+        settings,
+        any,
+        point,
+        order,
+    );
+    if before == any {
+        return any;
     }
-    check_constraint(nodes, constraints, starts, last, point, settings, order)
+    check_constraint(nodes, constraints, starts, last, settings, point, order)
 }
 
-fn check_any(
-    nodes: &[u8],
-    constraints: &[u8],
-    starts: &[usize; 256],
-    m: usize,
-    n: usize,
-    point: &[f64],
-    settings: Settings,
-    order: &mut [u16],
-) -> bool
-    requires { ⌜ Taken (now nodes) (now constraints) m n (now starts) ⌝ }
-    requires { ⌜ Lent (now nodes) (now point) (now order) ⌝ }
-    ensures { λ r. ⌜ r ≡ checkAny settings (now (point .entry)) (those nodes constraints m n) ⌝ }
-{
-    if m == 0 {
-        return false;
-    }
-    let last = n - 1;
-    let s = starts[last];
-    if check_any(nodes, constraints, starts, m - 1, s, point, settings, order) {
-        return true;
-    }
-    check_constraint(nodes, constraints, starts, last, point, settings, order)
-}
-
-// Constraint k with variable v at x.
-fn check_at(
+// Of constraint k with variable v at each of a quantifier's samples, likewise.
+fn check_samples(
     nodes: &[u8],
     constraints: &[u8],
     starts: &[usize; 256],
     k: usize,
     v: usize,
-    x: f64,
-    point: &[f64],
+    lo: f64,
+    hi: f64,
     settings: Settings,
+    any: bool,
+    point: &[f64],
     order: &mut [u16],
 ) -> bool
     requires { ⌜ Ready (now nodes) (now constraints) (k + 1) (now starts) ⌝ }
-    requires { ⌜ Lent (now nodes) (now point) (now order) ⌝ }
-    ensures { λ r. ⌜ r ≡ check settings (set (now (point .entry)) v x) (the nodes constraints k) ⌝ }
+    requires { ⌜ Room (now nodes) (now point) (now order) ⌝ }
+    ensures { λ r. ⌜ r ≡ check settings (old point) (quantified any v lo hi (the nodes constraints k)) ⌝ }
 {
-    let inner = sampled(point, v, x);
+    let samples = samples(lo, hi);
     let n = point.len();
-    check_constraint(nodes, constraints, starts, k, &inner[..n], settings, order)
-}
-
-fn check_for_all(
-    nodes: &[u8],
-    constraints: &[u8],
-    starts: &[usize; 256],
-    k: usize,
-    v: usize,
-    lo: f64,
-    hi: f64,
-    point: &[f64],
-    settings: Settings,
-    order: &mut [u16],
-) -> bool
-    requires { ⌜ Ready (now nodes) (now constraints) (k + 1) (now starts) ⌝ }
-    requires { ⌜ Lent (now nodes) (now point) (now order) ⌝ }
-    ensures { λ r. ⌜ r ≡ check settings (now (point .entry)) (ForAll v lo hi (the nodes constraints k)) ⌝ }
-{
-    if !check_at(nodes, constraints, starts, k, v, lo, point, settings, order) {
-        return false;
+    let mut i = 0;
+    while i < 3 {
+        let inner = sampled(v, samples[i], point);
+        if check_constraint(nodes, constraints, starts, k, settings, &inner[..n], order) == any {
+            return any;
+        }
+        i += 1;
     }
-    if !check_at(
-        nodes,
-        constraints,
-        starts,
-        k,
-        v,
-        middle(lo, hi),
-        point,
-        settings,
-        order,
-    ) {
-        return false;
-    }
-    check_at(nodes, constraints, starts, k, v, hi, point, settings, order)
-}
-
-fn check_exists(
-    nodes: &[u8],
-    constraints: &[u8],
-    starts: &[usize; 256],
-    k: usize,
-    v: usize,
-    lo: f64,
-    hi: f64,
-    point: &[f64],
-    settings: Settings,
-    order: &mut [u16],
-) -> bool
-    requires { ⌜ Ready (now nodes) (now constraints) (k + 1) (now starts) ⌝ }
-    requires { ⌜ Lent (now nodes) (now point) (now order) ⌝ }
-    ensures { λ r. ⌜ r ≡ check settings (now (point .entry)) (Exists v lo hi (the nodes constraints k)) ⌝ }
-{
-    if check_at(nodes, constraints, starts, k, v, lo, point, settings, order) {
-        return true;
-    }
-    if check_at(
-        nodes,
-        constraints,
-        starts,
-        k,
-        v,
-        middle(lo, hi),
-        point,
-        settings,
-        order,
-    ) {
-        return true;
-    }
-    check_at(nodes, constraints, starts, k, v, hi, point, settings, order)
+    !any
 }
 
 // ---- the residual
@@ -298,18 +247,60 @@ fn residual_of_atom(
     nodes: &[u8],
     relation: Relation,
     i: usize,
-    point: &[f64],
     settings: Settings,
+    point: &[f64],
     order: &mut [u16],
 ) -> f64
     requires { ⌜ Valid (now nodes) (i + 1) ⌝ }
     requires { ⌜ size (treeAt (now nodes) i) ≤ length (now order) ⌝ }
-    ensures { λ r. ⌜ r ≡ shortfallOf relation (valueOr (errorValue relation) (evalReal settings (now (point .entry)) (treeOf nodes i))) ⌝ }
+    ensures { λ r. ⌜ r ≡ shortfallOf relation (valueOr (errorValue relation) (evalReal settings (old point) (theTree nodes i))) ⌝ }
 {
-    match super::eval::eval_real(nodes, i, point, settings, order) {
+    match super::eval::eval_real(nodes, i, settings, point, order) {
         Evaluated::Value(v) => shortfall(relation, v),
         Evaluated::Failed(_) => shortfall(relation, error_value(relation)),
     }
+}
+
+// Of Not, by the residual of what it denies.
+fn residual_of_not(r: f64) -> f64
+    ensures { λ x. ⌜ x ≡ residualOfNot r ⌝ }
+{
+    if r < 1e-12 {
+        return 1.0;
+    }
+    0.0
+}
+
+// Of no constraint: what the others are added to, or compared with.
+fn residual_of_none(any: bool) -> f64
+    ensures { λ x. ⌜ x ≡ residualOfNone any ⌝ }
+{
+    if any {
+        return 1.0 / 0.0;
+    }
+    0.0
+}
+
+// With one constraint more: Or takes the least, And adds up.
+fn one_more(any: bool, before: f64, r: f64) -> f64
+    ensures { λ x. ⌜ x ≡ oneMore any before (absOf r) ⌝ }
+{
+    let size = number::abs(r);
+    if any {
+        return number::min(before, size);
+    }
+    before + size
+}
+
+// With one sample more: Exists takes the least, ForAll the greatest.
+fn sample_more(any: bool, before: f64, r: f64) -> f64
+    ensures { λ x. ⌜ x ≡ sampleMore any before (absOf r) ⌝ }
+{
+    let size = number::abs(r);
+    if any {
+        return number::min(before, size);
+    }
+    number::max(before, size)
 }
 
 pub fn evaluate_constraint_residual(
@@ -317,213 +308,147 @@ pub fn evaluate_constraint_residual(
     constraints: &[u8],
     starts: &[usize; 256],
     k: usize,
-    point: &[f64],
     settings: Settings,
+    point: &[f64],
     order: &mut [u16],
 ) -> f64
     requires { ⌜ Ready (now nodes) (now constraints) (k + 1) (now starts) ⌝ }
-    requires { ⌜ Lent (now nodes) (now point) (now order) ⌝ }
-    ensures { λ r. ⌜ r ≡ residual settings (now (point .entry)) (the nodes constraints k) ⌝ }
+    requires { ⌜ Room (now nodes) (now point) (now order) ⌝ }
+    ensures { λ r. ⌜ r ≡ residual settings (old point) (the nodes constraints k) ⌝ }
 {
     match constraint::record_in(constraints, k) {
-        Record::Atom(relation, i) => residual_of_atom(nodes, relation, i, point, settings, order),
-        Record::Not => {
-            let r = evaluate_constraint_residual(
-                nodes,
-                constraints,
-                starts,
-                k - 1,
-                point,
-                settings,
-                order,
-            );
-            if r < 1e-12 { 1.0 } else { 0.0 }
-        }
-        Record::And(m) => residual_sum(nodes, constraints, starts, m, k, point, settings, order),
-        Record::Or(m) => residual_least(nodes, constraints, starts, m, k, point, settings, order),
-        Record::ForAll(v, lo, hi) => residual_for_all(
+        Record::Atom(relation, i) => residual_of_atom(nodes, relation, i, settings, point, order),
+        Record::Not => residual_of_not(evaluate_constraint_residual(
             nodes,
             constraints,
             starts,
             k - 1,
-            v,
-            lo,
-            hi,
-            point,
             settings,
-            order,
-        ),
-        Record::Exists(v, lo, hi) => residual_exists(
-            nodes,
-            constraints,
-            starts,
-            k - 1,
-            v,
-            lo,
-            hi,
             point,
-            settings,
-            order,
-        ),
-    }
-}
-
-// Of the last m constraints before record n, oldest first.
-fn residual_sum(
-    nodes: &[u8],
-    constraints: &[u8],
-    starts: &[usize; 256],
-    m: usize,
-    n: usize,
-    point: &[f64],
-    settings: Settings,
-    order: &mut [u16],
-) -> f64
-    requires { ⌜ Taken (now nodes) (now constraints) m n (now starts) ⌝ }
-    requires { ⌜ Lent (now nodes) (now point) (now order) ⌝ }
-    ensures { λ r. ⌜ r ≡ residualSum settings (now (point .entry)) (whole 0) (those nodes constraints m n) ⌝ }
-{
-    if m == 0 {
-        return 0.0;
-    }
-    let last = n - 1;
-    let s = starts[last];
-    let before = residual_sum(nodes, constraints, starts, m - 1, s, point, settings, order);
-    before
-        + number::abs(evaluate_constraint_residual(
-            nodes,
-            constraints,
-            starts,
-            last,
-            point,
-            settings,
-            order,
-        ))
-}
-
-fn residual_least(
-    nodes: &[u8],
-    constraints: &[u8],
-    starts: &[usize; 256],
-    m: usize,
-    n: usize,
-    point: &[f64],
-    settings: Settings,
-    order: &mut [u16],
-) -> f64
-    requires { ⌜ Taken (now nodes) (now constraints) m n (now starts) ⌝ }
-    requires { ⌜ Lent (now nodes) (now point) (now order) ⌝ }
-    ensures { λ r. ⌜ r ≡ residualLeast settings (now (point .entry)) +∞ (those nodes constraints m n) ⌝ }
-{
-    if m == 0 {
-        return 1.0 / 0.0;
-    }
-    let last = n - 1;
-    let s = starts[last];
-    let before = residual_least(nodes, constraints, starts, m - 1, s, point, settings, order);
-    number::min(
-        before,
-        number::abs(evaluate_constraint_residual(
-            nodes,
-            constraints,
-            starts,
-            last,
-            point,
-            settings,
             order,
         )),
-    )
+        Record::And(m) => residual_each(
+            nodes,
+            constraints,
+            starts,
+            m,
+            k,
+            settings,
+            false,
+            point,
+            order,
+        ),
+        Record::Or(m) => residual_each(
+            nodes,
+            constraints,
+            starts,
+            m,
+            k,
+            settings,
+            true,
+            point,
+            order,
+        ),
+        Record::ForAll(v, lo, hi) => residual_samples(
+            nodes,
+            constraints,
+            starts,
+            k - 1,
+            v,
+            lo,
+            hi,
+            settings,
+            false,
+            point,
+            order,
+        ),
+        Record::Exists(v, lo, hi) => residual_samples(
+            nodes,
+            constraints,
+            starts,
+            k - 1,
+            v,
+            lo,
+            hi,
+            settings,
+            true,
+            point,
+            order,
+        ),
+    }
 }
 
-// Of constraint k with variable v at x, its magnitude.
-fn residual_at(
+// Of the last m constraints before record n, oldest first: with `any` the least, else the sum.
+fn residual_each(
+    nodes: &[u8],
+    constraints: &[u8],
+    starts: &[usize; 256],
+    m: usize,
+    n: usize,
+    settings: Settings,
+    any: bool,
+    point: &[f64],
+    order: &mut [u16],
+) -> f64
+    requires { ⌜ Taken (now nodes) (now constraints) m n (now starts) ⌝ }
+    requires { ⌜ Room (now nodes) (now point) (now order) ⌝ }
+    ensures { λ r. ⌜ r ≡ residual settings (old point) (joined any (those nodes constraints m n)) ⌝ }
+{
+    if m == 0 {
+        return residual_of_none(any);
+    }
+    let last = n - 1;
+    let s = starts[last];
+    let before = residual_each(
+        nodes,
+        constraints,
+        starts,
+        m - 1,
+        s,
+        settings,
+        any,
+        point,
+        order,
+    );
+    let r = evaluate_constraint_residual(nodes, constraints, starts, last, settings, point, order);
+    one_more(any, before, r)
+}
+
+// Of constraint k with variable v at each of a quantifier's samples: with `any` the least, else the greatest.
+fn residual_samples(
     nodes: &[u8],
     constraints: &[u8],
     starts: &[usize; 256],
     k: usize,
     v: usize,
-    x: f64,
-    point: &[f64],
+    lo: f64,
+    hi: f64,
     settings: Settings,
+    any: bool,
+    point: &[f64],
     order: &mut [u16],
 ) -> f64
     requires { ⌜ Ready (now nodes) (now constraints) (k + 1) (now starts) ⌝ }
-    requires { ⌜ Lent (now nodes) (now point) (now order) ⌝ }
-    ensures { λ r. ⌜ r ≡ absOf (residual settings (set (now (point .entry)) v x) (the nodes constraints k)) ⌝ }
+    requires { ⌜ Room (now nodes) (now point) (now order) ⌝ }
+    ensures { λ r. ⌜ r ≡ residual settings (old point) (quantified any v lo hi (the nodes constraints k)) ⌝ }
 {
-    let inner = sampled(point, v, x);
+    let samples = samples(lo, hi);
     let n = point.len();
-    number::abs(evaluate_constraint_residual(
-        nodes,
-        constraints,
-        starts,
-        k,
-        &inner[..n],
-        settings,
-        order,
-    ))
-}
-
-fn residual_for_all(
-    nodes: &[u8],
-    constraints: &[u8],
-    starts: &[usize; 256],
-    k: usize,
-    v: usize,
-    lo: f64,
-    hi: f64,
-    point: &[f64],
-    settings: Settings,
-    order: &mut [u16],
-) -> f64
-    requires { ⌜ Ready (now nodes) (now constraints) (k + 1) (now starts) ⌝ }
-    requires { ⌜ Lent (now nodes) (now point) (now order) ⌝ }
-    ensures { λ r. ⌜ r ≡ residual settings (now (point .entry)) (ForAll v lo hi (the nodes constraints k)) ⌝ }
-{
-    let a = residual_at(nodes, constraints, starts, k, v, lo, point, settings, order);
-    let b = residual_at(
-        nodes,
-        constraints,
-        starts,
-        k,
-        v,
-        middle(lo, hi),
-        point,
-        settings,
-        order,
-    );
-    let c = residual_at(nodes, constraints, starts, k, v, hi, point, settings, order);
-    number::max(number::max(number::max(0.0, a), b), c)
-}
-
-fn residual_exists(
-    nodes: &[u8],
-    constraints: &[u8],
-    starts: &[usize; 256],
-    k: usize,
-    v: usize,
-    lo: f64,
-    hi: f64,
-    point: &[f64],
-    settings: Settings,
-    order: &mut [u16],
-) -> f64
-    requires { ⌜ Ready (now nodes) (now constraints) (k + 1) (now starts) ⌝ }
-    requires { ⌜ Lent (now nodes) (now point) (now order) ⌝ }
-    ensures { λ r. ⌜ r ≡ residual settings (now (point .entry)) (Exists v lo hi (the nodes constraints k)) ⌝ }
-{
-    let a = residual_at(nodes, constraints, starts, k, v, lo, point, settings, order);
-    let b = residual_at(
-        nodes,
-        constraints,
-        starts,
-        k,
-        v,
-        middle(lo, hi),
-        point,
-        settings,
-        order,
-    );
-    let c = residual_at(nodes, constraints, starts, k, v, hi, point, settings, order);
-    number::min(number::min(number::min(1.0 / 0.0, a), b), c)
+    let mut value = residual_of_none(any);
+    let mut i = 0;
+    while i < 3 {
+        let inner = sampled(v, samples[i], point);
+        let r = evaluate_constraint_residual(
+            nodes,
+            constraints,
+            starts,
+            k,
+            settings,
+            &inner[..n],
+            order,
+        );
+        value = sample_more(any, value, r);
+        i += 1;
+    }
+    value
 }

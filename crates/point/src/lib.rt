@@ -4,6 +4,7 @@ pub mod helpers; // helpers.rs: the check and the residual
 
 use eval::EvalError;
 use eval::Evaluated;
+use settings::Settings;
 use tree::Tested;
 ghost use mathlib.Core.Path.{_≡_};
 ghost use Prim.Native.Nat.{_+_, _≤_};
@@ -12,7 +13,8 @@ ghost use Rattle.tree.specs.Tree.{size};
 ghost use Rattle.tree.specs.Nodes.{Valid, treeAt};
 ghost use Rattle.point.specs.Eval.{evalReal};
 ghost use Rattle.point.specs.Answer.{evalRefusal, evalAnswer, checkAnswer, residualAnswer};
-ghost use Rattle.tree.specs.Views.{treeOf};
+ghost use Rattle.tree.specs.Views.{theTree};
+ghost use Rattle.record.specs.Views.{old};
 
 // A refusal is document 01's number.
 pub enum EvalAnswer {
@@ -40,8 +42,8 @@ fn refused(refusal: u8) -> Tested
 
 // The tests of eval_real, and where they pass a size that the node's tree is not above.
 fn eval_tested(nodes: &[u8], k: usize, point: &[f64]) -> Tested
-    ensures { λ r. ⌜ r .refusal ≡ evalRefusal (now (nodes .entry)) k (now (point .entry)) ⌝ }
-    ensures { λ r. ⌜ (r .refusal ≡ 0 → size (treeOf nodes k) ≤ r .largest) ⌝ }
+    ensures { λ r. ⌜ r .refusal ≡ evalRefusal (old nodes) k (old point) ⌝ }
+    ensures { λ r. ⌜ (r .refusal ≡ 0 → size (theTree nodes k) ≤ r .largest) ⌝ }
 {
     let count = nodes.len() / 16;
     let over = nodes.len() % 16;
@@ -62,27 +64,33 @@ fn eval_tested(nodes: &[u8], k: usize, point: &[f64]) -> Tested
 }
 
 // The tree is of at most that size. Room for a short postorder is made sooner.
-fn eval_usual(nodes: &[u8], k: usize, point: &[f64], largest: usize) -> Evaluated
+fn eval_sized(
+    nodes: &[u8],
+    k: usize,
+    largest: usize,
+    settings: Settings,
+    point: &[f64],
+) -> Evaluated
     requires { ⌜ Valid (now nodes) (k + 1) × (size (treeAt (now nodes) k) ≤ largest) ⌝ }
-    ensures { λ x. ⌜ x ≡ evalReal usual (now (point .entry)) (treeOf nodes k) ⌝ }
+    ensures { λ x. ⌜ x ≡ evalReal settings (old point) (theTree nodes k) ⌝ }
 {
     if largest <= 64 {
         let mut order = [0u16; 64];
-        return eval::eval_real(nodes, k, point, settings::usual(), &mut order);
+        return eval::eval_real(nodes, k, settings, point, &mut order);
     }
     let mut order = [0u16; 4096];
-    eval::eval_real(nodes, k, point, settings::usual(), &mut order)
+    eval::eval_real(nodes, k, settings, point, &mut order)
 }
 
 // The value of a node's tree at the point.
 pub fn eval_real(nodes: &[u8], node: usize, point: &[f64]) -> EvalAnswer
-    ensures { λ r. ⌜ r ≡ evalAnswer (now (nodes .entry)) node (now (point .entry)) ⌝ }
+    ensures { λ r. ⌜ r ≡ evalAnswer usual (old nodes) node (old point) ⌝ }
 {
     let t = eval_tested(nodes, node, point);
     if t.refusal != 0 {
         return EvalAnswer::Refused(t.refusal);
     }
-    match eval_usual(nodes, node, point, t.largest) {
+    match eval_sized(nodes, node, t.largest, settings::usual(), point) {
         Evaluated::Value(v) => EvalAnswer::Value(v),
         Evaluated::Failed(e) => EvalAnswer::Failed(e),
     }
@@ -90,7 +98,7 @@ pub fn eval_real(nodes: &[u8], node: usize, point: &[f64]) -> EvalAnswer
 
 // Whether the point passes the check of the constraint.
 pub fn check_constraint(nodes: &[u8], constraints: &[u8], point: &[f64]) -> CheckAnswer
-    ensures { λ r. ⌜ r ≡ checkAnswer (now (nodes .entry)) (now (constraints .entry)) (now (point .entry)) ⌝ }
+    ensures { λ r. ⌜ r ≡ checkAnswer usual (old nodes) (old constraints) (old point) ⌝ }
 {
     let mut starts = [0usize; 256];
     let t = file::test_sized(nodes, constraints, &mut starts);
@@ -108,8 +116,8 @@ pub fn check_constraint(nodes: &[u8], constraints: &[u8], point: &[f64]) -> Chec
             constraints,
             &starts,
             last,
-            point,
             settings::usual(),
+            point,
             &mut order,
         ));
     }
@@ -119,15 +127,15 @@ pub fn check_constraint(nodes: &[u8], constraints: &[u8], point: &[f64]) -> Chec
         constraints,
         &starts,
         last,
-        point,
         settings::usual(),
+        point,
         &mut order,
     ))
 }
 
 // How far the point is from meeting the constraint.
 pub fn residual(nodes: &[u8], constraints: &[u8], point: &[f64]) -> ResidualAnswer
-    ensures { λ r. ⌜ r ≡ residualAnswer (now (nodes .entry)) (now (constraints .entry)) (now (point .entry)) ⌝ }
+    ensures { λ r. ⌜ r ≡ residualAnswer usual (old nodes) (old constraints) (old point) ⌝ }
 {
     let mut starts = [0usize; 256];
     let t = file::test_sized(nodes, constraints, &mut starts);
@@ -145,8 +153,8 @@ pub fn residual(nodes: &[u8], constraints: &[u8], point: &[f64]) -> ResidualAnsw
             constraints,
             &starts,
             last,
-            point,
             settings::usual(),
+            point,
             &mut order,
         ));
     }
@@ -156,8 +164,8 @@ pub fn residual(nodes: &[u8], constraints: &[u8], point: &[f64]) -> ResidualAnsw
         constraints,
         &starts,
         last,
-        point,
         settings::usual(),
+        point,
         &mut order,
     ))
 }

@@ -7,28 +7,28 @@ use Rattle.point.specs.declared.eval.Evaluated.{Evaluated}
 use Rattle.point.proofs.Answers.{eval-refused, eval-valid, eval-answered}
 
 returns : tie.Need-returns
-returns c = eval-refused _ _ _ _ (c .before .before .eval-tested .ensures .0) (c .if1 .taken)
+returns c = eval-refused _ _ _ _ _ (c .before .before .eval-tested .ensures .0) (c .if1 .taken)
 
-eval-usual-requires : tie.Need-eval-usual-requires
-eval-usual-requires c κs =
-    let t = c .before .before in
-    (eval-valid _ _ _ _ (t .eval-tested .ensures .0) (c .if1 .left), t .eval-tested .ensures .1 (c .if1 .left))
+eval-sized-requires : tie.Need-eval-sized-requires
+eval-sized-requires c κs =
+    let t = c .before .before .before in
+    (eval-valid _ _ _ _ (t .eval-tested .ensures .0) (c .before .if1 .left), t .eval-tested .ensures .1 (c .before .if1 .left))
 
 returns-2 : tie.Need-returns-2
 returns-2 c =
     let p₁ = c .before in
     let p₂ = p₁ .before .before in
     let p₃ = p₂ .before in
-    let p₄ = p₃ .before .before in
-    eval-answered _ _ _ _ (p₄ .eval-tested .ensures .0) (p₃ .if1 .left) (Evaluated.Value _) (sym (p₁ .v .given .1) ∙ p₂ .eval-usual .ensures)
+    let p₄ = p₃ .before in
+    eval-answered _ _ _ _ (p₄ .before .before .eval-tested .ensures .0) (p₄ .if1 .left) _ _ (p₃ .usual .ensures) (Evaluated.Value _) (sym (p₁ .v .given .1) ∙ p₂ .eval-sized .ensures)
 
 returns-3 : tie.Need-returns-3
 returns-3 c =
     let p₁ = c .before in
     let p₂ = p₁ .before .before in
     let p₃ = p₂ .before in
-    let p₄ = p₃ .before .before in
-    eval-answered _ _ _ _ (p₄ .eval-tested .ensures .0) (p₃ .if1 .left) (Evaluated.Failed _) (sym (p₁ .e .given .1) ∙ p₂ .eval-usual .ensures)
+    let p₄ = p₃ .before in
+    eval-answered _ _ _ _ (p₄ .before .before .eval-tested .ensures .0) (p₄ .if1 .left) _ _ (p₃ .usual .ensures) (Evaluated.Failed _) (sym (p₁ .e .given .1) ∙ p₂ .eval-sized .ensures)
 
 pub eval-real-spec : {M : Type 1} → statement M
 eval-real-spec =
@@ -36,7 +36,8 @@ eval-real-spec =
     (tie.spec
     (λ c κs. search needs)
     returns
-    eval-usual-requires
+    (λ c κs. search needs)
+    eval-sized-requires
     (λ c. search needs)
     (λ c. search needs)
     returns-2

@@ -13,10 +13,17 @@ returns-2 : tie.Need-returns-2
 returns-2 c = (list-refused _ _ _ (c .before .before .before .if1 .left) _ (c .before .before .test-sizes .ensures .0) (c .if2 .taken), λ z. absurd (c .if2 .taken z))
 
 returns-3 : tie.Need-returns-3
-returns-3 c = (c .refused2 .ensures ∙ no-node _ _ _ (c .before .before .before .before .before .if1 .left) (sym (c .before .before .before .before .test-sizes .ensures .0) ∙ c .before .before .if2 .left) (c .before .if3 .taken), λ z. absurd (omega (arith, c .refused2 .ensures)))
+returns-3 c =
+    let p₁ = c .before .before in
+    let p₂ = p₁ .before .before in
+    (c .refused2 .ensures ∙ no-node _ _ _ (p₂ .before .if1 .left) (sym (p₂ .test-sizes .ensures .0) ∙ p₁ .if2 .left) (c .before .if3 .taken), λ z. absurd (omega (arith, c .refused2 .ensures)))
 
 returns-4 : tie.Need-returns-4
-returns-4 c = (c .refused3 .ensures ∙ too-many _ _ _ (c .before .before .before .before .before .before .if1 .left) (sym (c .before .before .before .before .before .test-sizes .ensures .0) ∙ c .before .before .before .if2 .left) (c .before .before .if3 .left) (c .before .if4 .taken), λ z. absurd (omega (arith, c .refused3 .ensures)))
+returns-4 c =
+    let p₁ = c .before .before in
+    let p₂ = p₁ .before in
+    let p₃ = p₂ .before .before in
+    (c .refused3 .ensures ∙ too-many _ _ _ (p₃ .before .if1 .left) (sym (p₃ .test-sizes .ensures .0) ∙ p₂ .if2 .left) (p₁ .if3 .left) (c .before .if4 .taken), λ z. absurd (omega (arith, c .refused3 .ensures)))
 
 returns-5 : tie.Need-returns-5
 returns-5 c =

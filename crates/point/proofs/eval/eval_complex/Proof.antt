@@ -4,32 +4,20 @@ use native.Mathlib.Omega.{arith}
 use borrow.Author.Needs.{needs}
 use Rattle.tree.specs.NodeLaws.{depth-small}
 use Rattle.point.proofs.Flattening.{no-numbers}
-use Rattle.point.proofs.Machine.{answers, room-for-deep, room-for-long}
+use Rattle.point.proofs.Machine.{answers, balanced-deep, balanced-long}
 use Rattle.point.proofs.eval.eval_complex.Statement.{statement}
 use Rattle.point.proofs.eval.eval_complex.Tie as tie
-
-flatten-postorder-requires : tie.Need-flatten-postorder-requires
-flatten-postorder-requires c κs = search needs
-
-slice-aggregate-run : tie.Need-slice-aggregate-run
-slice-aggregate-run c = search needs
-
-slice-aggregate-run-2 : tie.Need-slice-aggregate-run-2
-slice-aggregate-run-2 c = search needs
 
 run-requires : tie.Need-run-requires
 run-requires c κs =
     let f = c .before .before .before .before .before .before .flatten-postorder in
     let s = c .before .before .before .before .before .before .before .before .before .before .before in
     record {
-      within = omega (arith, f .ensures .next, f .kept .1 .1 .0, s .pre .1);
+      within = omega (arith, f .ensures .next, f .kept .1 .1 .1 .0, s .pre .1);
       numbers = f .ensures .numbers (no-numbers _ _);
       same = refl;
-      room = room-for-long 16 _ _ (f .ensures .holds) (omega (arith, f .ensures .next, c .before .before .before .if1 .taken));
+      balanced = balanced-long 16 _ _ (f .ensures .holds) (omega (arith, f .ensures .next, c .before .before .before .if1 .taken));
     }
-
-same-length : tie.Need-same-length
-same-length c = search needs
 
 returns : tie.Need-returns
 returns c =
@@ -37,25 +25,16 @@ returns c =
     let p₂ = p₁ .before .before .before .before .before .before .before in
     p₁ .run .ensures ∙ answers _ _ _ _ (p₂ .flatten-postorder .ensures .holds)
 
-slice-aggregate-run-3 : tie.Need-slice-aggregate-run-3
-slice-aggregate-run-3 c = search needs
-
-slice-aggregate-run-4 : tie.Need-slice-aggregate-run-4
-slice-aggregate-run-4 c = search needs
-
 run-requires-2 : tie.Need-run-requires-2
 run-requires-2 c κs =
     let f = c .before .before .before .before .before .before .flatten-postorder in
     let s = c .before .before .before .before .before .before .before .before .before .before .before in
     record {
-      within = omega (arith, f .ensures .next, f .kept .1 .1 .0, s .pre .1);
+      within = omega (arith, f .ensures .next, f .kept .1 .1 .1 .0, s .pre .1);
       numbers = f .ensures .numbers (no-numbers _ _);
       same = refl;
-      room = room-for-deep 128 _ _ (f .ensures .holds) (depth-small _ _ (s .pre .0) (s .args .k) (omega arith));
+      balanced = balanced-deep 128 _ _ (f .ensures .holds) (depth-small _ _ (s .pre .0) (s .args .k) (omega arith));
     }
-
-same-length-2 : tie.Need-same-length-2
-same-length-2 c = search needs
 
 returns-2 : tie.Need-returns-2
 returns-2 c =
@@ -67,14 +46,14 @@ pub eval-complex-spec : {M : Type 1} → statement M
 eval-complex-spec =
     tie.close
     (tie.spec
-    flatten-postorder-requires
-    slice-aggregate-run
-    slice-aggregate-run-2
+    (λ c κs. search needs)
+    (λ c. search needs)
+    (λ c. search needs)
     run-requires
-    same-length
+    (λ c. search needs)
     returns
-    slice-aggregate-run-3
-    slice-aggregate-run-4
+    (λ c. search needs)
+    (λ c. search needs)
     run-requires-2
-    same-length-2
+    (λ c. search needs)
     returns-2)

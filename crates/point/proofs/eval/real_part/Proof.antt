@@ -7,12 +7,6 @@ use Rattle.point.proofs.Threshold.{threshold-is}
 use Rattle.point.proofs.eval.real_part.Statement.{statement}
 use Rattle.point.proofs.eval.real_part.Tie as tie
 
-abs-requires : tie.Need-abs-requires
-abs-requires c κs = search needs
-
-is-nan-requires : tie.Need-is-nan-requires
-is-nan-requires c κs = search needs
-
 returns : tie.Need-returns
 unfolding realPart if_then_else_
 returns c = simp (threshold-is, sym (c .before .before .before .abs .ensures), c .before .before .if1 .taken, sym (c .before .is-nan .ensures) ∙ c .if2 .taken)
@@ -26,4 +20,4 @@ unfolding realPart if_then_else_
 returns-3 c = simp (threshold-is, sym (c .before .abs .ensures), c .if1 .left)
 
 pub real-part-spec : {M : Type 1} → statement M
-real-part-spec = tie.close (tie.spec abs-requires is-nan-requires returns returns-2 returns-3)
+real-part-spec = tie.close (tie.spec (λ c κs. search needs) (λ c κs. search needs) returns returns-2 returns-3)

@@ -6,30 +6,6 @@ use Rattle.point.specs.Check.{holds}
 use Rattle.point.proofs.helpers.holds.Statement.{statement}
 use Rattle.point.proofs.helpers.holds.Tie as tie
 
-enum-told : tie.Need-enum-told
-enum-told c = search needs
-
-abs-requires : tie.Need-abs-requires
-abs-requires c κs = search needs
-
-enum-told-2 : tie.Need-enum-told-2
-enum-told-2 c = search needs
-
-enum-told-3 : tie.Need-enum-told-3
-enum-told-3 c = search needs
-
-enum-told-4 : tie.Need-enum-told-4
-enum-told-4 c = search needs
-
-enum-told-5 : tie.Need-enum-told-5
-enum-told-5 c = search needs
-
-enum-told-6 : tie.Need-enum-told-6
-enum-told-6 c = search needs
-
-abs-requires-2 : tie.Need-abs-requires-2
-abs-requires-2 c κs = search needs
-
 returns : tie.Need-returns
 unfolding holds
 returns c = simp (c .before .before .enum-told .given .1, sym (c .before .abs .ensures))
@@ -58,14 +34,14 @@ pub holds-spec : {M : Type 1} → statement M
 holds-spec =
     tie.close
     (tie.spec
-    enum-told
-    abs-requires
-    enum-told-2
-    enum-told-3
-    enum-told-4
-    enum-told-5
-    enum-told-6
-    abs-requires-2
+    (λ c. search needs)
+    (λ c κs. search needs)
+    (λ c. search needs)
+    (λ c. search needs)
+    (λ c. search needs)
+    (λ c. search needs)
+    (λ c. search needs)
+    (λ c κs. search needs)
     returns
     returns-2
     returns-3

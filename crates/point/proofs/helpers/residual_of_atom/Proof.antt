@@ -6,36 +6,12 @@ use Rattle.point.specs.Residual.{shortfall, valueOr, errorValue}
 use Rattle.point.proofs.helpers.residual_of_atom.Statement.{statement}
 use Rattle.point.proofs.helpers.residual_of_atom.Tie as tie
 
-eval-real-requires : tie.Need-eval-real-requires
-eval-real-requires c κs = search needs
-
-enum-known-v : tie.Need-enum-known-v
-enum-known-v c = search needs
-
-shortfall-requires : tie.Need-shortfall-requires
-shortfall-requires c κs = search needs
-
-enum-told : tie.Need-enum-told
-enum-told c = search needs
-
-error-value-requires : tie.Need-error-value-requires
-error-value-requires c κs = search needs
-
-shortfall-requires-2 : tie.Need-shortfall-requires-2
-shortfall-requires-2 c κs = search needs
-
-same-length : tie.Need-same-length
-same-length c = search needs
-
 returns : tie.Need-returns
 returns c =
     let p₁ = c .before .before in
     let p₂ = p₁ .before .before .before .before in
     let s = p₂ .before .before .before .before .before in
     c .shortfall .ensures ∙ sym (ap (λ (x : Evaluated). shortfall (s .args .relation) (valueOr (errorValue (s .args .relation)) x)) (sym (p₂ .eval-real .ensures) ∙ p₁ .v .given .1))
-
-same-length-2 : tie.Need-same-length-2
-same-length-2 c = search needs
 
 returns-2 : tie.Need-returns-2
 returns-2 c =
@@ -49,13 +25,13 @@ pub residual-of-atom-spec : {M : Type 1} → statement M
 residual-of-atom-spec =
     tie.close
     (tie.spec
-    eval-real-requires
-    enum-known-v
-    shortfall-requires
-    enum-told
-    error-value-requires
-    shortfall-requires-2
-    same-length
+    (λ c κs. search needs)
+    (λ c. search needs)
+    (λ c κs. search needs)
+    (λ c. search needs)
+    (λ c κs. search needs)
+    (λ c κs. search needs)
+    (λ c. search needs)
     returns
-    same-length-2
+    (λ c. search needs)
     returns-2)

@@ -6,36 +6,6 @@ use Rattle.point.specs.Residual.{shortfall}
 use Rattle.point.proofs.helpers.shortfall.Statement.{statement}
 use Rattle.point.proofs.helpers.shortfall.Tie as tie
 
-enum-told : tie.Need-enum-told
-enum-told c = search needs
-
-abs-requires : tie.Need-abs-requires
-abs-requires c κs = search needs
-
-enum-told-2 : tie.Need-enum-told-2
-enum-told-2 c = search needs
-
-enum-told-3 : tie.Need-enum-told-3
-enum-told-3 c = search needs
-
-enum-told-4 : tie.Need-enum-told-4
-enum-told-4 c = search needs
-
-abs-requires-2 : tie.Need-abs-requires-2
-abs-requires-2 c κs = search needs
-
-enum-told-5 : tie.Need-enum-told-5
-enum-told-5 c = search needs
-
-abs-requires-3 : tie.Need-abs-requires-3
-abs-requires-3 c κs = search needs
-
-enum-told-6 : tie.Need-enum-told-6
-enum-told-6 c = search needs
-
-abs-requires-4 : tie.Need-abs-requires-4
-abs-requires-4 c κs = search needs
-
 returns : tie.Need-returns
 unfolding shortfall
 returns c = simp (c .before .enum-told .given .1, c .abs .ensures)
@@ -80,16 +50,16 @@ pub shortfall-spec : {M : Type 1} → statement M
 shortfall-spec =
     tie.close
     (tie.spec
-    enum-told
-    abs-requires
-    enum-told-2
-    enum-told-3
-    enum-told-4
-    abs-requires-2
-    enum-told-5
-    abs-requires-3
-    enum-told-6
-    abs-requires-4
+    (λ c. search needs)
+    (λ c κs. search needs)
+    (λ c. search needs)
+    (λ c. search needs)
+    (λ c. search needs)
+    (λ c κs. search needs)
+    (λ c. search needs)
+    (λ c κs. search needs)
+    (λ c. search needs)
+    (λ c κs. search needs)
     returns
     returns-2
     returns-3

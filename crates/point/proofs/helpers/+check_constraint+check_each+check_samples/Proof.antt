@@ -1,0 +1,359 @@
+-- The functions of the check meet their contracts: at each call the record number falls, or the same record is looked at more closely.
+-- Assumes nothing.
+use Prim.Native.Nat.{ℕ, _<_, _≤_, _+_, _-_, _*_}
+use mathlib.Core.Path.{_≡_, refl, sym, ap, _∙_}
+use mathlib.Core.Bool.{not}
+use native.Mathlib.Omega.{arith}
+use borrow.Author.Needs.{needs}
+use borrow.Fn.Kinds.{In}
+use borrow.Fn.PlainCycle.{Measures}
+use denote.Ref.{now}
+use lib.ListN.{length, set, drop}
+use Rattle.constraint.specs.RecordLaws.{record-there, inside, atom-node, at-atom, at-not, at-and, and-taken, at-or, or-taken, at-forall, at-exists, some, start-falls, before-last, last}
+use Rattle.constraint.specs.declared.Record.{Record}
+use Rattle.constraint.specs.Records.{takes, constraintAt}
+use Rattle.constraint.specs.Starts.{Ready}
+use Rattle.constraint.proofs.record_in.Reads as record-in
+use Rattle.point.specs.Room.{kept}
+use Rattle.point.specs.Check.{check}
+use Rattle.point.specs.Code.{quantified}
+use Rattle.tree.proofs.Cycle.{at, below}
+use Rattle.point.proofs.Checking.{each-of-none, each-settled, each-goes-on, left, all-left, none-left, sample-settled, sample-goes-on}
+use Rattle.point.proofs.Sampling.{sample-length, sample-there, sample-room}
+use Rattle.point.proofs.helpers.check_atom.Reads as check-atom
+use Rattle.point.proofs.helpers.sampled.Reads as sampled
+use Rattle.point.proofs.helpers.samples.Reads as samples-of
+use Rattle.point.proofs.helpers.check_constraint.Reads as constraint
+use Rattle.point.proofs.helpers.check_constraint.Kinds as constraint-kinds
+use Rattle.point.proofs.helpers.check_each.Reads as each
+use Rattle.point.proofs.helpers.check_each.Kinds as each-kinds
+use Rattle.point.proofs.helpers.check_samples.Reads as samples
+use Rattle.point.proofs.helpers.check_samples.Kinds as samples-kinds
+use Rattle.point.proofs.helpers.+check_constraint+check_each+check_samples.Lts-check_constraint as constraint-lts
+use Rattle.point.proofs.helpers.+check_constraint+check_each+check_samples.Lts-check_each as each-lts
+use Rattle.point.proofs.helpers.+check_constraint+check_each+check_samples.Lts-check_samples as samples-lts
+use Rattle.point.proofs.helpers.+check_constraint+check_each+check_samples.{statement}
+use Rattle.point.proofs.helpers.+check_constraint+check_each+check_samples.Tie.{close}
+
+abbrev μ-constraint : Measures 5 constraint-kinds.ps ℕ
+μ-constraint κs a = 2 * a .1 .1 .1 .0 + 1
+
+abbrev μ-each : Measures 5 each-kinds.ps ℕ
+μ-each κs a = 2 * a .1 .1 .1 .1 .0
+
+abbrev μ-samples : Measures 5 samples-kinds.ps ℕ
+μ-samples κs a = 2 * a .1 .1 .1 .0 + 2
+
+abbrev Inv-loop : samples-lts.InvT-loop
+Inv-loop nodes constraints starts k v lo hi settings any point order₀ samples n i₀ order i =
+    let c = constraintAt nodes constraints k in
+    (i ≤ 3)
+    × (length order ≡ length order₀)
+    × (left any (λ x. check settings (set point v x) c) (drop i samples) ≡ check settings point (quantified any v lo hi c))
+
+abbrev μ-loop : samples-lts.MeasureT-loop
+μ-loop nodes constraints starts k v lo hi settings any point order₀ samples n i₀ order i = 3 - i
+
+module _ (t : ℕ) where
+  abbrev constraint-at : In 5 constraint-kinds.ps
+  constraint-at = at constraint-kinds.ps μ-constraint constraint.Pre t
+
+  abbrev each-at : In 5 each-kinds.ps
+  each-at = at each-kinds.ps μ-each each.Pre t
+
+  abbrev samples-at : In 5 samples-kinds.ps
+  samples-at = at samples-kinds.ps μ-samples samples.Pre t
+
+  abbrev constraint-below : In 5 constraint-kinds.ps
+  constraint-below = below constraint-kinds.ps μ-constraint constraint.Pre t
+
+  abbrev each-below : In 5 each-kinds.ps
+  each-below = below each-kinds.ps μ-each each.Pre t
+
+  abbrev constraint-calls : constraint-lts.Claims
+  constraint-calls = (
+    record-in.Asked,
+    record-in.Learnt,
+    check-atom.Asked,
+    check-atom.Learnt,
+    constraint-below,
+    constraint.Post,
+    each-below,
+    each.Post,
+    below samples-kinds.ps μ-samples samples.Pre t,
+    samples.Post,
+  )
+
+  abbrev each-calls : each-lts.Claims
+  each-calls = (each-below, each.Post, constraint-below, constraint.Post)
+
+  abbrev samples-calls : samples-lts.Claims
+  samples-calls = (samples-of.Asked, samples-of.Learnt, sampled.Asked, sampled.Learnt, constraint-below, constraint.Post)
+
+  -- ---- check_constraint, by what the record says
+  abbrev Read : Type 0
+  Read = constraint-lts.After-record-in constraint-calls constraint-at constraint.Post
+
+  abbrev start : Read → constraint-lts.Start constraint-calls constraint-at constraint.Post
+  start r = r .before .before .before .before .before
+
+  -- what a record that takes one takes
+  inner : (r : Read) {x : Record} → r .record-in .result ≡ x → takes x ≡ 1 →
+      let a = start r .args in (0 < a .k) × Ready (now (a .nodes)) (now (a .constraints)) (a .k - 1 + 1) (now (a .starts))
+  inner r e = inside _ _ _ _ (start r .pre .1 .0) _ (sym (r .record-in .ensures) ∙ e)
+
+  record-in-requires : constraint-lts.Need-record-in-requires constraint-calls constraint-at constraint.Post
+  record-in-requires c κs = let s = c .before .before .before .before in record-there _ _ (s .args .k) _ (s .pre .1 .0)
+
+  check-atom-requires : constraint-lts.Need-check-atom-requires constraint-calls constraint-at constraint.Post
+  check-atom-requires c κs =
+      let r = c .before .before .before .before in
+      let a = atom-node _ _ _ _ (start r .pre .1 .0) _ _ (sym (r .record-in .ensures) ∙ c .before .before .relation .given .1) in
+      (a, start r .pre .1 .1 .long _ a)
+
+  sub-check-constraint : constraint-lts.Need-sub-check-constraint constraint-calls constraint-at constraint.Post
+  sub-check-constraint c = inner (c .before .before) (c .enum-told .given .1) refl .0
+
+  check-constraint-requires : constraint-lts.Need-check-constraint-requires constraint-calls constraint-at constraint.Post
+  check-constraint-requires c κs =
+      let r = c .before .before .before in
+      let w = inner r (c .before .enum-told .given .1) refl in
+      (omega arith, (w .1, start r .pre .1 .1))
+
+  check-each-requires : constraint-lts.Need-check-each-requires constraint-calls constraint-at constraint.Post
+  check-each-requires c κs =
+      let r = c .before .before .before .before in
+      (omega arith, (and-taken _ _ _ _ (start r .pre .1 .0) _ (sym (r .record-in .ensures) ∙ c .before .before .m .given .1), start r .pre .1 .1))
+
+  check-each-requires-2 : constraint-lts.Need-check-each-requires-2 constraint-calls constraint-at constraint.Post
+  check-each-requires-2 c κs =
+      let r = c .before .before .before .before in
+      (omega arith, (or-taken _ _ _ _ (start r .pre .1 .0) _ (sym (r .record-in .ensures) ∙ c .before .before .m2 .given .1), start r .pre .1 .1))
+
+  sub-check-samples : constraint-lts.Need-sub-check-samples constraint-calls constraint-at constraint.Post
+  sub-check-samples c = inner (c .before .before .before) (c .before .v .given .1) refl .0
+
+  check-samples-requires : constraint-lts.Need-check-samples-requires constraint-calls constraint-at constraint.Post
+  check-samples-requires c κs =
+      let r = c .before .before .before .before in
+      let w = inner r (c .before .before .v .given .1) refl in
+      (omega arith, (w .1, start r .pre .1 .1))
+
+  sub-check-samples-2 : constraint-lts.Need-sub-check-samples-2 constraint-calls constraint-at constraint.Post
+  sub-check-samples-2 c = inner (c .before .before .before) (c .before .v2 .given .1) refl .0
+
+  check-samples-requires-2 : constraint-lts.Need-check-samples-requires-2 constraint-calls constraint-at constraint.Post
+  check-samples-requires-2 c κs =
+      let r = c .before .before .before .before in
+      let w = inner r (c .before .before .v2 .given .1) refl in
+      (omega arith, (w .1, start r .pre .1 .1))
+
+  returns : constraint-lts.Need-returns constraint-calls constraint-at constraint.Post
+  unfolding check
+  returns c =
+      let f = c .before .before in
+      let r = f .before .before .before .before .before in
+      rw (at-atom _ _ _ _ (start r .pre .1 .0) _ _ (sym (r .record-in .ensures) ∙ f .before .before .before .relation .given .1)) (f .check-atom .ensures)
+
+  returns-2 : constraint-lts.Need-returns-2 constraint-calls constraint-at constraint.Post
+  unfolding check
+  returns-2 c =
+      let f = c .before .before in
+      let r = f .before .before .before .before in
+      rw (at-not _ _ _ _ (start r .pre .1 .0) (sym (r .record-in .ensures) ∙ f .before .before .enum-told .given .1)) (ap not (f .check-constraint .ensures))
+
+  returns-3 : constraint-lts.Need-returns-3 constraint-calls constraint-at constraint.Post
+  returns-3 c =
+      let f = c .before .before in
+      let r = f .before .before .before .before .before in
+      rw (at-and _ _ _ _ (start r .pre .1 .0) _ (sym (r .record-in .ensures) ∙ f .before .before .before .m .given .1)) (f .check-each .ensures)
+
+  returns-4 : constraint-lts.Need-returns-4 constraint-calls constraint-at constraint.Post
+  returns-4 c =
+      let f = c .before .before in
+      let r = f .before .before .before .before .before in
+      rw (at-or _ _ _ _ (start r .pre .1 .0) _ (sym (r .record-in .ensures) ∙ f .before .before .before .m2 .given .1)) (f .check-each2 .ensures)
+
+  returns-5 : constraint-lts.Need-returns-5 constraint-calls constraint-at constraint.Post
+  returns-5 c =
+      let f = c .before .before in
+      let r = f .before .before .before .before .before in
+      rw (at-forall _ _ _ _ (start r .pre .1 .0) _ _ _ (sym (r .record-in .ensures) ∙ f .before .before .before .v .given .1)) (f .check-samples .ensures)
+
+  returns-6 : constraint-lts.Need-returns-6 constraint-calls constraint-at constraint.Post
+  returns-6 c =
+      let f = c .before .before in
+      let r = f .before .before .before .before .before in
+      rw (at-exists _ _ _ _ (start r .pre .1 .0) _ _ _ (sym (r .record-in .ensures) ∙ f .before .before .before .v2 .given .1)) (f .check-samples2 .ensures)
+
+  -- ---- check_each
+  each-returns : each-lts.Need-returns each-calls each-at each.Post
+  each-returns c = let s = c .before .before .before .before .before in each-of-none _ _ (s .args .any) _ _ _ _ _ (s .pre .1 .0) (c .if1 .taken)
+
+  each-sub-last : each-lts.Need-sub-last each-calls each-at each.Post
+  each-sub-last c = let s = c .before .before .before .before .before in some _ _ _ _ _ (s .pre .1 .0) (c .if1 .left)
+
+  each-mul-s : each-lts.Need-mul-s each-calls each-at each.Post
+  each-mul-s c = let s = c .before .before .before .before .before in omega (arith, each-sub-last c, s .pre .1 .0 .ready .few)
+
+  each-element-copy-out-s : each-lts.Need-element-copy-out-s each-calls each-at each.Post
+  each-element-copy-out-s c = let s = c .before .before .before .before .before in omega (arith, each-sub-last c, s .pre .1 .0 .ready .few)
+
+  each-check-each-requires : each-lts.Need-check-each-requires each-calls each-at each.Post
+  each-check-each-requires c κs =
+      let s = c .before .before .before .before .before .before .before in
+      let q = s .pre .1 .0 in
+      let h = c .before .before .if1 .left in
+      (omega (arith, start-falls _ _ _ _ _ q h _ refl), (before-last _ _ _ _ _ q h _ refl, s .pre .1 .1))
+
+  each-returns-2 : each-lts.Need-returns-2 each-calls each-at each.Post
+  each-returns-2 c =
+      let f = c .before .before .before in
+      let i = f .before .before .before in
+      let s = i .before .before .before .before .before in
+      each-settled _ _ (s .args .any) _ _ _ _ _ (s .pre .1 .0) (i .if1 .left) _ refl _ (f .check-each .ensures) (c .if2 .taken)
+
+  each-check-constraint-requires : each-lts.Need-check-constraint-requires each-calls each-at each.Post
+  each-check-constraint-requires c κs =
+      let f = c .before .before .before .before in
+      let i = f .before .before .before in
+      let s = i .before .before .before .before .before in
+      let q = s .pre .1 .0 in
+      let h = i .if1 .left in
+      (omega (arith, some _ _ _ _ _ q h), (last _ _ _ _ _ q h _ refl, kept (s .pre .1 .1) (f .check-each .kept .1 .1 .1 .1 .1 .1 .1 .1 .0)))
+
+  each-returns-3 : each-lts.Need-returns-3 each-calls each-at each.Post
+  each-returns-3 c =
+      let f = c .before .before in
+      let g = f .before .before in
+      let b = g .before .before .before in
+      let i = b .before .before .before in
+      let s = i .before .before .before .before .before in
+      each-goes-on _ _ (s .args .any) _ _ _ _ _ (s .pre .1 .0) (i .if1 .left) _ refl _ (b .check-each .ensures) (g .if2 .left) _ (f .check-constraint .ensures)
+
+  -- ---- check_samples
+  samples-loop-holds : samples-lts.Need-loop-holds samples-calls samples-at samples.Post Inv-loop μ-loop
+  samples-loop-holds c =
+      let a = c .before .before .before .before .before .args in
+      (omega arith, refl, ap (left (a .any) _) (c .samples .ensures) ∙ all-left _ _ (a .v) (a .lo) (a .hi) _ (a .any))
+
+  samples-array-read-sampled : samples-lts.Need-array-read-sampled samples-calls samples-at samples.Post Inv-loop μ-loop
+  samples-array-read-sampled c = omega (arith, ap length (c .before .before .samples .ensures))
+
+  samples-sampled-requires : samples-lts.Need-sampled-requires samples-calls samples-at samples.Post Inv-loop μ-loop
+  samples-sampled-requires c κs = c .before .before .before .before .before .before .before .pre .1 .1 .few
+
+  samples-array-share-prefix-inner : samples-lts.Need-array-share-prefix-inner samples-calls samples-at samples.Post Inv-loop μ-loop
+  samples-array-share-prefix-inner c =
+      let a = c .before .before .before .before .before .before .before .before .args in
+      sample-there (c .sampled .result) (now (a .point)) (a .v) _ (c .sampled .ensures)
+
+  samples-slice-aggregate-check-constraint : samples-lts.Need-slice-aggregate-check-constraint samples-calls samples-at samples.Post Inv-loop μ-loop
+  samples-slice-aggregate-check-constraint c =
+      let a = c .before .before .before .before .before .before .before .before .before .args in
+      sample-length (c .before .sampled .result) (now (a .point)) (a .v) _ (c .before .sampled .ensures)
+
+  samples-check-constraint-requires : samples-lts.Need-check-constraint-requires samples-calls samples-at samples.Post Inv-loop μ-loop
+  samples-check-constraint-requires c κs =
+      let f = c .before .before in
+      let l = f .before .before in
+      let s = l .before .before .before .before .before .before in
+      (omega arith, (s .pre .1 .0, sample-room _ _ (s .args .v) _ (f .sampled .ensures) (s .pre .1 .1) (l .loop .inv .1)))
+
+  samples-same-length : samples-lts.Need-same-length samples-calls samples-at samples.Post Inv-loop μ-loop
+  samples-same-length c =
+      let f = c .before .before .before in
+      f .check-constraint .kept .1 .1 .1 .1 .1 .1 .0 ∙ f .before .before .before .before .before .loop .inv .1
+
+  samples-returns : samples-lts.Need-returns samples-calls samples-at samples.Post Inv-loop μ-loop
+  samples-returns c =
+      let f = c .before .before .before in
+      let g = f .before .before .before in
+      let l = g .before .before in
+      let a = l .before .before .before .before .before .before .args in
+      sample-settled _ _ (a .v) (a .lo) (a .hi) _ (a .any) (l .before .samples .ensures) _ (l .loop .inv .2) (g .before .loop-test .taken) (f .check-constraint .result) (rw (sym (g .sampled .ensures)) (f .check-constraint .ensures)) (c .if1 .taken)
+
+  samples-loop-again : samples-lts.Need-loop-again samples-calls samples-at samples.Post Inv-loop μ-loop
+  samples-loop-again c =
+      let f = c .before .before .before in
+      let g = f .before .before .before in
+      let l = g .before .before in
+      let a = l .before .before .before .before .before .before .args in (
+        omega arith,
+        f .check-constraint .kept .1 .1 .1 .1 .1 .1 .0 ∙ l .loop .inv .1,
+        sample-goes-on _ _ (a .v) (a .lo) (a .hi) _ (a .any) (l .before .samples .ensures) _ (l .loop .inv .2) (g .before .loop-test .taken) (f .check-constraint .result) (rw (sym (g .sampled .ensures)) (f .check-constraint .ensures)) (c .if1 .left),
+      )
+
+  samples-same-length-2 : samples-lts.Need-same-length-2 samples-calls samples-at samples.Post Inv-loop μ-loop
+  samples-same-length-2 c = c .before .loop .inv .1
+
+  samples-returns-2 : samples-lts.Need-returns-2 samples-calls samples-at samples.Post Inv-loop μ-loop
+  samples-returns-2 c =
+      let a = c .before .before .before .before .before .before .before .args in
+      none-left _ _ (a .v) (a .lo) (a .hi) _ (a .any) (c .before .before .samples .ensures) _ (c .before .loop .inv .2) (c .loop-test .left)
+
+pub +check-constraint+check-each+check-samples-spec : {M : Type 1} → statement M
++check-constraint+check-each+check-samples-spec =
+    close
+    μ-constraint
+    μ-each
+    μ-samples
+    (λ t. constraint-lts.spec (constraint-calls t) (constraint-at t) constraint.Post
+    (record-in-requires t)
+    (λ c. search needs)
+    (check-atom-requires t)
+    (λ c. search needs)
+    (sub-check-constraint t)
+    (check-constraint-requires t)
+    (λ c. search needs)
+    (check-each-requires t)
+    (λ c. search needs)
+    (check-each-requires-2 t)
+    (λ c. search needs)
+    (sub-check-samples t)
+    (check-samples-requires t)
+    (λ c. search needs)
+    (sub-check-samples-2 t)
+    (check-samples-requires-2 t)
+    (λ c. search needs)
+    (returns t)
+    (λ c. search needs)
+    (returns-2 t)
+    (λ c. search needs)
+    (returns-3 t)
+    (λ c. search needs)
+    (returns-4 t)
+    (λ c. search needs)
+    (returns-5 t)
+    (λ c. search needs)
+    (returns-6 t))
+    (λ t. each-lts.spec (each-calls t) (each-at t) each.Post
+    (each-returns t)
+    (each-sub-last t)
+    (each-mul-s t)
+    (each-element-copy-out-s t)
+    (λ c. omega arith)
+    (each-check-each-requires t)
+    (λ c. search needs)
+    (each-returns-2 t)
+    (each-check-constraint-requires t)
+    (λ c. search needs)
+    (each-returns-3 t))
+    λ t. samples-lts.spec (samples-calls t) (samples-at t) samples.Post
+    Inv-loop
+    μ-loop
+    (λ c κs. search needs)
+    (samples-loop-holds t)
+    (λ c. search needs)
+    (samples-array-read-sampled t)
+    (samples-sampled-requires t)
+    (samples-array-share-prefix-inner t)
+    (samples-slice-aggregate-check-constraint t)
+    (samples-check-constraint-requires t)
+    (samples-same-length t)
+    (samples-returns t)
+    (λ c. search needs)
+    (λ c. search needs)
+    (samples-loop-again t)
+    (samples-same-length-2 t)
+    (samples-returns-2 t)
