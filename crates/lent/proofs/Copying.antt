@@ -1,22 +1,19 @@
 -- What the copies come to, over plain lists. Assumes nothing.
 use Prim.Native.Nat.{ℕ, zero, suc, _<_, _≤_}
 use mathlib.Core.Path.{_≡_, refl, sym, ap, ap₂, _∙_}
-use mathlib.Core.List.{List, [], _∷_, _++_}
+use mathlib.Core.List.{List, [], _∷_}
 use native.Mathlib.Nat.{le-of-suc-le-suc, not-suc-le-zero}
 use native.Mathlib.Omega.{arith}
-use borrow.Author.Tests.{lt-ltb, le-ltb}
 use lib.Ieee.{Float, nan}
-use lib.ListN.{length, getD, set, take, drop, List·getD-eq-default}
+use lib.ListN.{length, getD, set, take, List·getD-eq-default}
 use lib.Seq.{set-getD, set-out, take-all}
 use Rattle.interval.specs.declared.Interval.{Interval}
 use Rattle.interval.specs.declared.Boxes.{Boxes}
 use Rattle.interval.specs.Interval.{_‥_}
 use Rattle.interval.specs.Boxes.{intervals}
 use Rattle.interval.specs.BoxLaws.{intervals-at, intervals-length}
-use Rattle.file.specs.File.{givenRefusal}
-use Rattle.narrow.specs.declared.Propagated.{Propagated}
-use Rattle.narrow.specs.Given.{_leaving_and_, lows, highs, propagateGiven}
-use Rattle.lent.specs.Copies.{over, blankOf, putOf, loadOf, firstOr9, tooMany, laid, narrowBoxes}
+use Rattle.narrow.specs.Given.{lows, highs}
+use Rattle.lent.specs.Copies.{over, blankOf, putOf, loadOf}
 use Rattle.lent.specs.Ends.{lows-length, highs-length}
 
 -- ---- one list over another
@@ -25,20 +22,18 @@ module _ {A : Type 0} where
   over-nothing [] = refl
   over-nothing (x ∷ xs) = refl
 
-  -- a list as long as the first takes the place of all of it
-  pub over-front : (xs ys : List A) (n : ℕ) → length xs ≡ n → n ≤ length ys → xs ++ drop n ys ≡ over xs ys
-  over-front [] ys zero e h = refl
-  over-front [] ys (suc n) e h = absurd (omega arith)
-  over-front (x ∷ xs) ys zero e h = absurd (omega arith)
-  over-front (x ∷ xs) [] (suc n) e h = absurd (not-suc-le-zero h)
-  over-front (x ∷ xs) (y ∷ ys) (suc n) e h = ap (λ (r : List A). x ∷ r) (over-front xs ys n (omega arith) (le-of-suc-le-suc h))
-
   pub taken : (xs ys : List A) (n : ℕ) → length xs ≡ n → n ≤ length ys → take n (over xs ys) ≡ xs
   taken [] ys zero e h = refl
   taken [] ys (suc n) e h = absurd (omega arith)
   taken (x ∷ xs) ys zero e h = absurd (omega arith)
   taken (x ∷ xs) [] (suc n) e h = absurd (not-suc-le-zero h)
   taken (x ∷ xs) (y ∷ ys) (suc n) e h = ap (λ (r : List A). x ∷ r) (taken xs ys n (omega arith) (le-of-suc-le-suc h))
+
+  -- a list that is no longer is all replaced
+  pub over-takes : (xs ys : List A) → length ys ≤ length xs → over xs ys ≡ take (length ys) xs
+  over-takes xs [] h = over-nothing xs
+  over-takes [] (y ∷ ys) h = absurd (not-suc-le-zero h)
+  over-takes (x ∷ xs) (y ∷ ys) h = ap (λ (r : List A). x ∷ r) (over-takes xs ys (le-of-suc-le-suc h))
 
   -- one more of the first is written
   over-more : (xs ys : List A) (i : ℕ) (d : A) → i < length xs → set (over (take i xs) ys) i (getD xs i d) ≡ over (take (suc i) xs) ys
@@ -120,31 +115,3 @@ module _ (s : Boxes) (p : length (s .lo) ≡ 16) (q : length (s .hi) ≡ 16) whe
 
   pub get-past : (i : ℕ) (old : Interval) → 16 ≤ i → old ≡ getD (intervals (s .lo) (s .hi)) i old
   get-past i old h = sym (List·getD-eq-default (intervals (s .lo) (s .hi)) old (omega (arith, intervals-length (s .lo) (s .hi) (q ∙ sym p))))
-
--- ---- `narrow_boxes`
-module _ (nodes b : List ℕ) where
-  pub first-of : (r : ℕ) → r ≡ givenRefusal nodes b → (r ≡ 0 → ⊥) → Propagated.Refused r ≡ tooMany nodes b
-  unfolding tooMany
-  first-of r e h = refused-first r (givenRefusal nodes b) e h
-    where
-      refused-first : (r s : ℕ) → r ≡ s → (r ≡ 0 → ⊥) → Propagated.Refused r ≡ firstOr9 s
-      refused-first r zero e h = absurd (h e)
-      refused-first r (suc s) e h = ap Propagated.Refused e
-
-  pub nine-of : (r : ℕ) → r ≡ givenRefusal nodes b → r ≡ 0 → Propagated.Refused 9 ≡ tooMany nodes b
-  unfolding tooMany
-  nine-of r e z = ap firstOr9 (sym z ∙ e)
-
-  module _ (s : Boxes) where
-    pub over-sixteen : (w : Propagated) → 16 < s .count → w ≡ tooMany nodes b → record { answer = w; boxes = s } ≡ narrowBoxes nodes b s
-    unfolding narrowBoxes
-    over-sixteen w h e = rw (lt-ltb 16 (s .count) h, e)
-
-    pub in-places : (w : Propagated) (lo hi : List Float) → s .count ≤ 16 → length (s .lo) ≡ 16 → length (s .hi) ≡ 16 → length lo ≡ s .count → length hi ≡ s .count
-        → (w leaving lo and hi) ≡ propagateGiven nodes b (take (s .count) (s .lo)) (take (s .count) (s .hi))
-        → record { answer = w; boxes = record { lo = lo ++ drop (s .count) (s .lo); hi = hi ++ drop (s .count) (s .hi); count = s .count } } ≡ narrowBoxes nodes b s
-    unfolding narrowBoxes
-    in-places w lo hi h p q l k e =
-        rw (le-ltb 16 (s .count) h)
-        (ap₂ (λ (x y : List Float). record { answer = w; boxes = record { lo = x; hi = y; count = s .count } }) (over-front lo (s .lo) (s .count) l (omega arith)) (over-front hi (s .hi) (s .count) k (omega arith))
-        ∙ ap (laid s) e)

@@ -1,4 +1,4 @@
--- Rules for walks: the test of a `while`, `if c { ..; return }`, and calls of functions that promise `r ≡ G args` and nothing more.
+-- Rules for walks: the test of a `while`, `if c { ..; return }`, and calls of functions that promise one thing of their result.
 -- Assumes `Given`.
 use mathlib.Core.Path.{_≡_, sym, ap, subst}
 use Prim.Native.Nat.{ℕ, zero, suc, _-_, _≤_, _<_}
@@ -68,7 +68,7 @@ module _ {M : Type 1} {𝓤 : URA M} {H : Heap 𝓤} {A : Atoms 𝓤} {K : Type 
       → (T y → Seq K W Γ (runs C Λ E a (anyQ (afterSeq 𝓤 H (Wp 𝓤 H C Λ E b (post 𝓤 H q)) (post 𝓤 H q))))) → (T (not y) → Seq K W Γ (runs C Λ E b q)) → Seq K W Γ (runs C Λ E (seq (cond c a skip) b) q)
   if-return t {b = b} o on off = first t $ branches t o on (λ h. skips t $ exec t C Λ E b q $ off h)
 
--- ---- calls of a function with no `&mut` and the one promise `r ≡ G args`, whose result is plain
+-- ---- calls of a function with no `&mut` and one promise of its result, which is plain
 module _ {n : ℕ} (os : List (Outlives n)) (ps : List (Slot n)) (ks : Kepts ps) (R : RattleType) where
   abbrev sig : Signature
   sig = record { lifetimes = n; outlives = os; params = ps; result = plain (λ _. R) }
@@ -76,9 +76,9 @@ module _ {n : ℕ} (os : List (Outlives n)) (ps : List (Slot n)) (ks : Kepts ps)
   abbrev end : Ended
   end = record { signature = sig; kept = ks }
 
-  module _ (G : (κs : Lfts n) → Args sig κs → R .Denot) where
+  module _ (P : (κs : Lfts n) → Args sig κs → R .Denot → Type 0) where
     abbrev promise : {M : Type 1} (𝓤 : URA M) → Clauses 𝓤 end
-    promise 𝓤 κs a = record { ghost = Unit {0}; requires = λ _. emp 𝓤; ensures = λ _ r _. fact 𝓤 (r ≡ G κs a) }
+    promise 𝓤 κs a = record { ghost = Unit {0}; requires = λ _. emp 𝓤; ensures = λ _ r _. fact 𝓤 (P κs a r) }
 
     abbrev pub FnOf : {M : Type 1} (𝓤 : URA M) (H : Heap 𝓤) (A : Atoms 𝓤) → Contract 𝓤
     FnOf 𝓤 H A = tripleOf 𝓤 H A sig (closing 𝓤 H A end (promise 𝓤))
@@ -88,21 +88,34 @@ module _ {n : ℕ} (os : List (Outlives n)) (ps : List (Slot n)) (ks : Kepts ps)
       pub calls-fn : K → FmC 𝓤 H (W .laws) C → Triple 𝓤 (C f) (FnOf 𝓤 H A) → (vals : R .Denot → List Val) → Tells R (Is R) vals
           → (κs : Lfts n) (qs : Shares n) (bounds : AllOutlive n os κs) (a : Args sig κs) (vss : Vals sig κs)
           → Opds K W (raw (FnOf 𝓤 H A .pre ((κs, qs, bounds, a, vss), tt)) ∷ Γ) E xs (flat (typesAt ps κs) vss)
-          → (Is R (G κs a) (vals (G κs a)) → Seq K W (raw (alive 𝓤 H A sig κs qs) ∷ Γ) (lands C Λ E d (only (vals (G κs a))) rest q))
+          → ((r : R .Denot) → P κs a r → Is R r (vals r) → Seq K W (raw (alive 𝓤 H A sig κs qs) ∷ Γ) (lands C Λ E d (only (vals r)) rest q))
           → Seq K W (raw (onEntry 𝓤 H A sig κs qs a vss) ∷ Γ) (runs C Λ E (seq (call f xs d) rest) q)
       calls-fn t fm met vals tl κs qs bounds a vss os k =
           use1 W (raw (FnOf 𝓤 H A .pre ((κs, qs, bounds, a, vss), tt))) (∗emp 𝓤 _) $
           calls-at t fm (FnOf 𝓤 H A) met ((κs, qs, bounds, a, vss), tt) os (λ w.
           use1 W (later (some (λ (r : R .Denot). (raw (alive 𝓤 H A sig κs qs) ⊛ ‵ (R .own r (w ∷ []))) ⊛ raw (ensured 𝓤 H A end (promise 𝓤) κs a tt r)))) (id⊢ 𝓤 _) $ await t tt $ pick t (λ r.
-          split t $ move t (1 ∷ []) $ use1 W (raw (fact 𝓤 (r ≡ G κs a))) (exE 𝓤 _ (λ ws. snd∗ 𝓤 (sem 𝓤 H A (lasts end κs a ws)) (fact 𝓤 (r ≡ G κs a)))) $ heard t (r ≡ G κs a) (λ e. split t $ move t (1 ∷ []) $
+          split t $ move t (1 ∷ []) $ use1 W (raw (fact 𝓤 (P κs a r))) (exE 𝓤 _ (λ ws. snd∗ 𝓤 (sem 𝓤 H A (lasts end κs a ws)) (fact 𝓤 (P κs a r)))) $ heard t (P κs a r) (λ p. split t $ move t (1 ∷ []) $
           facts t R (Is R) (shows 𝓤 H A R) r (w ∷ []) (λ is.
-          let is′ : Is R (G κs a) (w ∷ []) = subst (λ (z : R .Denot). Is R z (w ∷ [])) e is in
-          subst (λ (u : Val). Seq K W (raw (alive 𝓤 H A sig κs qs) ∷ Γ) (lands C Λ E d u rest q)) (sym (ap only (tl (G κs a) _ is′))) (k (subst (Is R (G κs a)) (tl (G κs a) _ is′) is′))))))
+          subst (λ (u : Val). Seq K W (raw (alive 𝓤 H A sig κs qs) ∷ Γ) (lands C Λ E d u rest q)) (sym (ap only (tl r _ is))) (k r p (subst (Is R r) (tl r _ is) is))))))
+
+-- the same where the promise is `r ≡ G args`
+module _ {n : ℕ} (os : List (Outlives n)) (ps : List (Slot n)) (ks : Kepts ps) (R : RattleType) (G : (κs : Lfts n) → Args (sig os ps ks R) κs → R .Denot) where
+  abbrev equals : (κs : Lfts n) → Args (sig os ps ks R) κs → R .Denot → Type 0
+  equals κs a r = r ≡ G κs a
+
+  module _ {M : Type 1} {𝓤 : URA M} {H : Heap 𝓤} {A : Atoms 𝓤} {K : Type 0} {W : Given 𝓤 H A} {Γ : List (Item 𝓤)} {E : Env 𝓤 H} {C : Calls 𝓤 H} {Λ : Loops 𝓤 H} {q : Post 𝓤 H} {f : Name} {xs : List Operand} {d : Place} {rest : Body} where
+    pub calls-eq : K → FmC 𝓤 H (W .laws) C → Triple 𝓤 (C f) (FnOf os ps ks R equals 𝓤 H A) → (vals : R .Denot → List Val) → Tells R (Is R) vals
+        → (κs : Lfts n) (qs : Shares n) (bounds : AllOutlive n os κs) (a : Args (sig os ps ks R) κs) (vss : Vals (sig os ps ks R) κs)
+        → Opds K W (raw (FnOf os ps ks R equals 𝓤 H A .pre ((κs, qs, bounds, a, vss), tt)) ∷ Γ) E xs (flat (typesAt ps κs) vss)
+        → (Is R (G κs a) (vals (G κs a)) → Seq K W (raw (alive 𝓤 H A (sig os ps ks R) κs qs) ∷ Γ) (lands C Λ E d (only (vals (G κs a))) rest q))
+        → Seq K W (raw (onEntry 𝓤 H A (sig os ps ks R) κs qs a vss) ∷ Γ) (runs C Λ E (seq (call f xs d) rest) q)
+    calls-eq t fm met vals tl κs qs bounds a vss os′ k = calls-fn os ps ks R equals t fm met vals tl κs qs bounds a vss os′ (λ r e is.
+        subst (λ (z : R .Denot). Is R z (vals z) → Seq K W (raw (alive 𝓤 H A (sig os ps ks R) κs qs) ∷ Γ) (lands C Λ E d (only (vals z)) rest q)) (sym e) k is)
 
 -- the same where no parameter is a reference: the arguments are had for nothing
 module _ (ps : List (Slot 0)) (ks : Kepts ps) (R : RattleType) (G : Args (sig [] ps ks R) tt → R .Denot) where
   abbrev pub Fn : {M : Type 1} (𝓤 : URA M) (H : Heap 𝓤) (A : Atoms 𝓤) → Contract 𝓤
-  Fn = FnOf [] ps ks R (λ _ a. G a)
+  Fn = FnOf [] ps ks R (λ _ a r. r ≡ G a)
 
   module _ {M : Type 1} {𝓤 : URA M} {H : Heap 𝓤} {A : Atoms 𝓤} {K : Type 0} {W : Given 𝓤 H A} {Γ : List (Item 𝓤)} {E : Env 𝓤 H} {C : Calls 𝓤 H} {Λ : Loops 𝓤 H} {q : Post 𝓤 H} {f : Name} {xs : List Operand} {d : Place} {rest : Body} where
     pub calls-val : K → FmC 𝓤 H (W .laws) C → Triple 𝓤 (C f) (Fn 𝓤 H A) → (vals : R .Denot → List Val) → Tells R (Is R) vals → (a : Args (sig [] ps ks R) tt) (vss : Vals (sig [] ps ks R) tt)
@@ -110,4 +123,4 @@ module _ (ps : List (Slot 0)) (ks : Kepts ps) (R : RattleType) (G : Args (sig []
         → (Is R (G a) (vals (G a)) → Seq K W Γ (lands C Λ E d (only (vals (G a))) rest q)) → Seq K W Γ (runs C Λ E (seq (call f xs d) rest) q)
     calls-val t fm met vals tl a vss own os k =
         use0 W (raw (onEntry 𝓤 H A (sig [] ps ks R) tt tt a vss)) (via 𝓤 (sem 𝓤 H A (owns (typesAt ps tt) a vss)) own (emp∗ 𝓤 _)) $
-        calls-fn [] ps ks R (λ _ a. G a) t fm met vals tl tt tt tt a vss os (λ is. drop t $ k is)
+        calls-eq [] ps ks R (λ _ a. G a) t fm met vals tl tt tt tt a vss os (λ is. drop t $ k is)

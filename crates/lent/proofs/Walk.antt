@@ -23,7 +23,8 @@ pub use contract.Monad.{Fun, fact}
 unfoldable pub use contract.Running.{givenOf, tables, tablesOf}
 pub use types.Kit.{Sq, runs, anyQ, atRet, Given, Item, ‵, raw, _⊛_, some, later, ⋆, _$_, _∵_, !, qed, by, move, keep, drop, use1, use2, split, join, pick, rewrite, fsplit, fjoin, feqI, feqL, suffices, frame, await, done}
 pub use types.Part.{agg, whole, sub, look-in}
-pub use types.Run.{look, look-raw, init, store, store-raw, forget, stop, hop, fld, from, load, lit, unit-lit, of-opd, bin, assigns, assigns-last, and-then, no-more, addr, land, first, blocks, exec, Below, again, loops, returns, returns-within, enter, alloc1, alloc0, params1, pass1, pass0, free1, free0}
+pub use types.Run.{look, look-raw, init, store, store-raw, forget, stop, hop, fld, from, load, lit, unit-lit, of-opd, bin, assigns, assigns-last, and-then, no-more, addr, land}
+pub use types.Run.{first, blocks, exec, Below, again, loops, returns, returns-within, enter, alloc1, alloc0, params1, pass1, pass0, free1, free0}
 pub use sound.WpLaws.{FmC, fmOf, WpFn-mono}
 pub use denote.Exit.{yes}
 pub use denote.RattleType.{owns}

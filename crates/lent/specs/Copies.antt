@@ -1,16 +1,20 @@
 -- What the functions below `propagate` compute: the list as boxes by value, those narrowed, and the list again.
-use Prim.Native.Nat.{ℕ, zero, suc}
-use mathlib.Core.Bool.{Bool, true, false}
+use Prim.Native.Nat.{ℕ}
+use mathlib.Core.Path.{_≡_}
+use mathlib.Core.Bool.{Bool, true, false, _&&_}
 use mathlib.Core.List.{List, [], _∷_}
-use lib.Dec.{ltb}
+use lib.Dec.{leb}
 use lib.Ieee.{binary64, ofBits}
-use lib.ListN.{length, set, take, replicate}
+use lib.ListN.{length, set, replicate}
+use Rattle.settings.specs.declared.Settings.{Settings}
 use Rattle.interval.specs.declared.Interval.{Interval}
 use Rattle.interval.specs.declared.Boxes.{Boxes}
-use Rattle.file.specs.File.{givenRefusal}
+use Rattle.interval.specs.Boxes.{boxesOf, allSound}
+use Rattle.record.specs.Leaving.{_leaving_}
+use Rattle.file.specs.File.{readGiven}
 use Rattle.narrow.specs.declared.Propagated.{Propagated}
-use Rattle.narrow.specs.Given as Given
-use Rattle.narrow.specs.Given.{_leaving_and_, lows, highs, propagateGiven}
+use Rattle.narrow.specs.Narrowing.{propagate}
+use Rattle.narrow.specs.Given.{lows, highs, tested, answered}
 use Rattle.lent.specs.declared.Narrowed.{Narrowed}
 
 -- the second list with its first elements replaced by those of the first
@@ -29,23 +33,12 @@ putOf s i v = record { lo = set (s .lo) i (v .lo); hi = set (s .hi) i (v .hi); c
 unfoldable pub loadOf : List Interval → Boxes
 loadOf ys = let s = blankOf (length ys) in record { lo = over (lows ys) (s .lo); hi = over (highs ys) (s .hi); count = s .count }
 
-abbrev pub firstOr9 : ℕ → Propagated
-firstOr9 zero = Propagated.Refused 9
-firstOr9 (suc r) = Propagated.Refused (suc r)
-
-unfoldable pub tooMany : List ℕ → List ℕ → Propagated
-tooMany nodes constraints = firstOr9 (givenRefusal nodes constraints)
-
--- the ends that a call left, in their places
-abbrev pub laid : Boxes → Given.Outcome → Narrowed
-laid s (x leaving lo and hi) = record { answer = x; boxes = record { lo = over lo (s .lo); hi = over hi (s .hi); count = s .count } }
-
-abbrev pub narrowBy : Bool → List ℕ → List ℕ → Boxes → Narrowed
-narrowBy true nodes constraints s = record { answer = tooMany nodes constraints; boxes = s }
-narrowBy false nodes constraints s = laid s (propagateGiven nodes constraints (take (s .count) (s .lo)) (take (s .count) (s .hi)))
-
-unfoldable pub narrowBoxes : List ℕ → List ℕ → Boxes → Narrowed
-narrowBoxes nodes constraints s = narrowBy (ltb 16 (s .count)) nodes constraints s
+-- what is promised of r, the boxes s narrowed
+pub record Narrows (σ : Settings) (nodes constraints : List ℕ) (s : Boxes) (r : Narrowed) : Type 0 where
+  pub count : r .boxes .count ≡ s .count
+  pub lows : length (r .boxes .lo) ≡ 16
+  pub highs : length (r .boxes .hi) ≡ 16
+  pub whole : (r .answer leaving boxesOf (r .boxes)) ≡ tested (readGiven nodes constraints) (leb (s .count) 16 && allSound (boxesOf s)) (boxesOf s) (λ c. answered (λ x. x) (propagate σ c (boxesOf s)))
 
 abbrev pub isRefusal : Propagated → Bool
 isRefusal (Propagated.Refused r) = true

@@ -1,5 +1,3 @@
 pub mod Lent
 pub mod Copies
 pub mod Ends
-pub mod Lengths
-pub mod Promise

@@ -1,13 +1,17 @@
 // `propagate` on the caller's own list of intervals (document 01, "Forms of the Rust to recast"). The list is copied to boxes by value,
-// narrowed there by `narrow::propagate_given`, and copied back.
+// narrowed there by `narrow::narrow_boxes`, and copied back.
 use interval::Boxes;
 use interval::Interval;
+use narrow::Mode;
 use narrow::Propagated;
 ghost use mathlib.Core.Path.{_≡_};
 ghost use lib.ListN.{getD};
+ghost use Rattle.settings.specs.Settings.{usual};
 ghost use Rattle.interval.specs.Boxes.{intervals};
-ghost use Rattle.lent.specs.Lent.{_leaving_, propagateLent};
-ghost use Rattle.lent.specs.Copies.{over, blankOf, putOf, loadOf, tooMany, narrowBoxes, isRefusal};
+ghost use Rattle.record.specs.Leaving.{_leaving_};
+ghost use Rattle.lent.specs.Lent.{propagateLent};
+ghost use Rattle.lent.specs.Copies.{over, blankOf, putOf, loadOf, Narrows, isRefusal};
+ghost use Rattle.record.specs.Views.{old, final};
 
 // ---- the list and boxes by value
 
@@ -44,7 +48,7 @@ fn get(boxes: Boxes, i: usize, old: Interval) -> Interval
 
 // The first 16 intervals, and how many there are in all.
 fn load(list: &[Interval]) -> Boxes
-    ensures { λ r. ⌜ r ≡ loadOf (now (list .entry)) ⌝ }
+    ensures { λ r. ⌜ r ≡ loadOf (old list) ⌝ }
 {
     let mut out = blank(list.len());
     let mut i = 0;
@@ -56,7 +60,7 @@ fn load(list: &[Interval]) -> Boxes
 }
 
 fn store(list: &mut [Interval], boxes: Boxes)
-    ensures { λ _. ⌜ now (list .exit) ≡ over (intervals (boxes .lo) (boxes .hi)) (now (list .entry)) ⌝ }
+    ensures { λ _. ⌜ final list ≡ over (intervals (boxes .lo) (boxes .hi)) (old list) ⌝ }
 {
     let mut i = 0;
     while i < list.len() {
@@ -72,34 +76,33 @@ pub struct Narrowed {
     pub boxes: Boxes,
 }
 
-// Of more than 16 boxes: the records are tested first.
-fn too_many(nodes: &[u8], constraints: &[u8]) -> Propagated
-    ensures { λ r. ⌜ r ≡ tooMany (now (nodes .entry)) (now (constraints .entry)) ⌝ }
+// The tests in document 01's order, then `propagate` by the one constraint that the records leave. A refusal alters nothing.
+fn narrow_boxes(nodes: &[u8], constraints: &[u8], boxes: Boxes) -> Narrowed
+    ensures { λ r. ⌜ Narrows usual (old nodes) (old constraints) boxes r ⌝ }
 {
     let mut starts = [0usize; 256];
     let r = file::test_given(nodes, constraints, &mut starts);
     if r != 0 {
-        return Propagated::Refused(r);
-    }
-    Propagated::Refused(9)
-}
-
-fn narrow_boxes(nodes: &[u8], constraints: &[u8], boxes: Boxes) -> Narrowed
-    ensures { λ r. ⌜ r ≡ narrowBoxes (now (nodes .entry)) (now (constraints .entry)) boxes ⌝ }
-{
-    let count = boxes.count;
-    if 16 < count {
         return Narrowed {
-            answer: too_many(nodes, constraints),
+            answer: Propagated::Refused(r),
             boxes,
         };
     }
-    let mut lo = boxes.lo;
-    let mut hi = boxes.hi;
-    let answer = narrow::propagate_given(nodes, constraints, &mut lo[..count], &mut hi[..count]);
+    if boxes.are_sound() {
+        let last = constraints.len() / 24 - 1;
+        let settings = settings::usual();
+        let mode = Mode::Written;
+        let x = narrow::narrow_boxes(nodes, constraints, &starts, last, settings, mode, boxes);
+        let result = x.result;
+        let narrowed = x.boxes;
+        return Narrowed {
+            answer: Propagated::Answered(result),
+            boxes: narrowed,
+        };
+    }
     Narrowed {
-        answer,
-        boxes: Boxes { lo, hi, count },
+        answer: Propagated::Refused(9),
+        boxes,
     }
 }
 
@@ -114,7 +117,7 @@ fn is_refusal(answer: Propagated) -> bool
 
 // Narrows the list itself. A refusal alters nothing in it.
 pub fn propagate(nodes: &[u8], constraints: &[u8], boxes: &mut [Interval]) -> Propagated
-    ensures { λ r. ⌜ (r leaving now (boxes .exit)) ≡ propagateLent (now (nodes .entry)) (now (constraints .entry)) (now (boxes .entry)) ⌝ }
+    ensures { λ r. ⌜ (r leaving final boxes) ≡ propagateLent usual (old nodes) (old constraints) (old boxes) ⌝ }
 {
     let out = narrow_boxes(nodes, constraints, load(boxes));
     let answer = out.answer;

@@ -1,7 +1,7 @@
 -- The ways out of the functions on one atom, over plain values. Assumes nothing.
 use Prim.Native.Nat.{ℕ, _<_, _≤_}
 use mathlib.Core.Path.{_≡_, refl, sym, ap, _∙_}
-use mathlib.Core.Bool.{true, false, _&&_, _||_}
+use mathlib.Core.Bool.{true, false, _&&_}
 use mathlib.Core.List.{List}
 use borrow.Author.Tests.{lt-ltb, le-ltb}
 use native.Mathlib.Omega.{arith}
@@ -13,17 +13,19 @@ use Rattle.number.specs.Literals.{zero-is}
 use Rattle.number.specs.Next.{nextUp, nextDown}
 use Rattle.settings.specs.declared.Settings.{Settings}
 use Rattle.interval.specs.declared.Interval.{Interval}
-use Rattle.interval.specs.Interval.{_‥_, isEmpty, nothing, exp, hasLn, ln, minus}
+use Rattle.interval.specs.Interval.{_‥_, isEmpty}
 use Rattle.interval.specs.Boxes.{intervals, missing}
 use Rattle.interval.specs.BoxLaws.{intervals-at, intervals-length, intervals-short, intervals-set}
 use Rattle.tree.specs.Tree.{Tree}
 use Rattle.constraint.specs.declared.Relation.{Relation}
+use Rattle.record.specs.Leaving.{_leaving_}
 use Rattle.narrow.specs.declared.PropResult.{PropResult}
 use Rattle.narrow.specs.declared.PropResult.the-variants.{Changed, Stable, Conflict}
 use Rattle.narrow.specs.declared.Values.the-variants.{Within, Unknown}
 use Rattle.narrow.specs.declared.Demand.{Demand}
 use Rattle.narrow.specs.declared.Target.the-variants.{Stop, Out, Nudge}
-use Rattle.narrow.specs.Narrowing.{Narrowed, _leaving_, emlInterval, forward, evalInterval, askReal, askOf, demand, askBoth, backward, targetOf, nudgeVar, nudgeTree, aim, narrowTo, narrowAtom, eps}
+use Rattle.narrow.specs.Aiming.{aimAt, eml-aimed}
+use Rattle.narrow.specs.Narrowing.{Narrowed, evalInterval, askBoth, backward, targetOf, nudgeVar, nudgeTree, aim, narrowTo, narrowAtom, eps}
 
 -- the code's constant
 pub eps-is : bits 0x3cd0_0000_0000_0000 ≡ eps
@@ -65,6 +67,10 @@ module _ (σ : Settings) (rel : Relation) (t : Tree) (b : List Interval) where
   unfolding narrowAtom narrowTo
   atom-unknown e = simp e
 
+  pub atom-eml : {x y : Tree} {d : Demand} {z : Narrowed} → t ≡ Tree.Eml x y → d ≡ aimAt σ rel (evalInterval b x) (evalInterval b y) → z ≡ askBoth d (backward σ x) (backward σ y) b → z ≡ narrowAtom σ rel t b
+  atom-eml {x} {y} e k h =
+      h ∙ ap (λ (d : Demand). askBoth d (backward σ x) (backward σ y) b) k ∙ eml-aimed σ rel x y b ∙ ap (λ (u : Tree). narrowAtom σ rel u b) (sym e)
+
   module _ {v : Interval} (e : evalInterval b t ≡ Within v) where
     pub atom-empty : isEmpty v ≡ true → Conflict leaving b ≡ narrowAtom σ rel t b
     unfolding narrowAtom narrowTo if_then_else_
@@ -82,47 +88,3 @@ module _ (σ : Settings) (rel : Relation) (t : Tree) (b : List Interval) where
       pub atom-nudged : {z : Narrowed} → targetOf σ rel v ≡ Nudge → z ≡ nudgeTree t b → z ≡ narrowAtom σ rel t b
       unfolding narrowAtom narrowTo if_then_else_ aim
       atom-nudged h g = simp (e, n, h) g
-
--- ---- an Eml of x and y, forward and backward
-pub none-in-nothing : isEmpty nothing ≡ true
-unfolding isEmpty lt
-none-in-nothing = refl
-
-pub eml-nudged : (x y : Tree) (b : List Interval) → Stable leaving b ≡ nudgeTree (Tree.Eml x y) b
-unfolding nudgeTree
-eml-nudged x y b = refl
-
-module _ (x y : Tree) (b : List Interval) where
-  pub eml-left : evalInterval b x ≡ Unknown → evalInterval b (Tree.Eml x y) ≡ Unknown
-  unfolding evalInterval forward
-  eml-left e = simp e
-
-  module _ {l : Interval} (p : evalInterval b x ≡ Within l) where
-    pub eml-right : evalInterval b y ≡ Unknown → evalInterval b (Tree.Eml x y) ≡ Unknown
-    unfolding evalInterval forward
-    eml-right e = simp (p, e)
-
-    module _ {r : Interval} (q : evalInterval b y ≡ Within r) where
-      pub eml-empty : (isEmpty l || isEmpty r) ≡ true → evalInterval b (Tree.Eml x y) ≡ Within nothing
-      unfolding evalInterval forward emlInterval if_then_else_
-      eml-empty e = simp (p, q, e)
-
-      pub eml-unreal : (isEmpty l || isEmpty r) ≡ false → hasLn r ≡ false → evalInterval b (Tree.Eml x y) ≡ Unknown
-      unfolding evalInterval forward emlInterval if_then_else_
-      eml-unreal n e = simp (p, q, n, e)
-
--- where its value is real
-pub record Real (x y : Tree) (b : List Interval) (l r : Interval) : Type 0 where
-  pub left : evalInterval b x ≡ Within l
-  pub right : evalInterval b y ≡ Within r
-  pub some : (isEmpty l || isEmpty r) ≡ false
-  pub positive : hasLn r ≡ true
-
-module _ {x y : Tree} {b : List Interval} {l r : Interval} (w : Real x y b l r) where
-  pub eml-real : {e m v : Interval} → e ≡ exp l → m ≡ ln r → v ≡ minus e m → evalInterval b (Tree.Eml x y) ≡ Within v
-  unfolding evalInterval forward emlInterval if_then_else_
-  eml-real f g k = simp (w .left, w .right, w .some, w .positive, k, f, g)
-
-  pub eml-back : (σ : Settings) (out : Interval) {d : Demand} {z : Narrowed} → isEmpty out ≡ false → d ≡ askReal l r out → z ≡ askBoth d (backward σ x) (backward σ y) b → z ≡ backward σ (Tree.Eml x y) out b
-  unfolding backward demand askOf if_then_else_
-  eml-back σ out o k g = simp (o, w .left, w .right, w .some, w .positive, sym k) g

@@ -9,12 +9,12 @@ use Rattle.settings.specs.declared.Settings.{Settings}
 use Rattle.interval.specs.declared.Interval.{Interval}
 use Rattle.interval.specs.Interval.{isEmpty}
 use Rattle.tree.specs.Tree.{Tree}
+use Rattle.record.specs.Leaving.{_leaving_}
 use Rattle.narrow.specs.declared.PropResult.{PropResult}
-use Rattle.narrow.specs.declared.PropResult.the-variants.{Stable, Conflict}
-use Rattle.narrow.specs.declared.Values.the-variants.{Within, Unknown}
+use Rattle.narrow.specs.declared.PropResult.the-variants.{Conflict}
 use Rattle.narrow.specs.declared.Demand.{Demand}
 use Rattle.narrow.specs.declared.Demand.the-variants.{Answer, Ask}
-use Rattle.narrow.specs.Narrowing.{Narrowed, _leaving_, worseOf, evalInterval, askOf, demand, askBoth, fixedAt, narrowVar, backward}
+use Rattle.narrow.specs.Narrowing.{Narrowed, worseOf, askBoth, fixedAt, narrowVar, backward, backwardEml}
 
 module _ (σ : Settings) (out : Interval) (b : List Interval) where
   pub back-empty : (t : Tree) → isEmpty out ≡ true → Conflict leaving b ≡ backward σ t out b
@@ -37,8 +37,7 @@ module _ (σ : Settings) (out : Interval) (b : List Interval) where
     unfolding backward if_then_else_
     back-var e h = simp (e, n) h
 
-    pub back-eml : {l r : Tree} {z : Narrowed} → t ≡ Tree.Eml l r → z ≡ askBoth (demand (evalInterval b l) (evalInterval b r) out) (backward σ l) (backward σ r) b
-        → z ≡ backward σ t out b
+    pub back-eml : {l r : Tree} {z : Narrowed} → t ≡ Tree.Eml l r → z ≡ backwardEml σ l r out b → z ≡ backward σ t out b
     unfolding backward if_then_else_
     back-eml e h = simp (e, n) h
 
@@ -50,22 +49,7 @@ module _ (σ : Settings) (l r : Tree) (b : List Interval) where
 
   -- right goes on with left's boxes, whatever left's answer
   pub asked-both : {d : Demand} {left right : Interval} {first second : Narrowed} {w : PropResult} → d ≡ Ask left right
-      → first ≡ backward σ l left b → second ≡ backward σ r right (first .boxes) → w ≡ worseOf (first .result) (second .result)
-      → w leaving second .boxes ≡ askBoth d (backward σ l) (backward σ r) b
+      → first ≡ backward σ l left b → second ≡ backward σ r right (first .places) → w ≡ worseOf (first .answer) (second .answer)
+      → w leaving second .places ≡ askBoth d (backward σ l) (backward σ r) b
   unfolding askBoth
   asked-both h f g k = simp (h, sym f, sym g, k)
-
-  module _ (out : Interval) where
-    pub left-unknown : evalInterval b l ≡ Unknown → Stable leaving b ≡ askBoth (demand (evalInterval b l) (evalInterval b r) out) (backward σ l) (backward σ r) b
-    unfolding demand askBoth
-    left-unknown p = simp p
-
-    module _ {x : Interval} (p : evalInterval b l ≡ Within x) where
-      pub right-unknown : evalInterval b r ≡ Unknown → Stable leaving b ≡ askBoth (demand (evalInterval b l) (evalInterval b r) out) (backward σ l) (backward σ r) b
-      unfolding demand askBoth
-      right-unknown q = simp (p, q)
-
-      pub both-known : {y : Interval} {d : Demand} {z : Narrowed} → evalInterval b r ≡ Within y → d ≡ askOf x y out → z ≡ askBoth d (backward σ l) (backward σ r) b
-          → z ≡ askBoth (demand (evalInterval b l) (evalInterval b r) out) (backward σ l) (backward σ r) b
-      unfolding demand
-      both-known q h g = simp (p, q, sym h) g

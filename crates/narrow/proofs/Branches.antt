@@ -3,7 +3,7 @@ use Prim.Native.Nat.{ℕ, zero, suc, _+_, _-_, _<_, _≤_}
 use mathlib.Core.Path.{_≡_, refl, sym, ap, ap₂, _∙_}
 use mathlib.Core.Bool.{Bool, true, false}
 use mathlib.Core.List.{List, [], _∷_, _++_}
-use mathlib.Core.Option.{none, some}
+use mathlib.Core.Option.{some}
 use native.Mathlib.Nat.{le-of-suc-le-suc, not-suc-le-zero}
 use native.Mathlib.Numerals.{add-one}
 use native.Mathlib.Omega.{arith}
@@ -17,11 +17,12 @@ use Rattle.interval.specs.Interval.{_‥_, isEmpty, intersect, hull, moves}
 use Rattle.interval.specs.Boxes.{intervals, boxesOf, missing}
 use Rattle.interval.specs.BoxLaws.{intervals-at, intervals-length, intervals-set, first-length, first-at, first-set}
 use Rattle.interval.specs.declared.Boxes.{Boxes}
+use Rattle.record.specs.Leaving.{_leaving_}
 use Rattle.narrow.specs.declared.PropResult.{PropResult}
 use Rattle.narrow.specs.declared.PropResult.the-variants.{Changed, Stable, Conflict}
 use Rattle.narrow.specs.declared.Tightened.{Tightened}
-use Rattle.narrow.specs.Narrowing.{Narrowed, _leaving_, worseOf, hulls, survive, tightened, adopt, adoptSurvivors}
-use Rattle.narrow.specs.Modes.{isConflict, alive}
+use Rattle.narrow.specs.Narrowing.{Narrowed, isConflict, worseOf, hulls, hullWith, survive, tightened, adopt, adoptSurvivors}
+use Rattle.narrow.specs.Modes.{alive}
 
 -- ---- the hull of each pair
 hulls-at : (A B : List Interval) (i : ℕ) (d : Interval) → length B ≡ length A → i < length A → getD (hulls A B) i d ≡ hull (getD A i d) (getD B i d)
@@ -100,32 +101,17 @@ module _ (a b o : Boxes) (i : ℕ) (p : Joining a b o i) where
 
 -- ---- one more branch
 module _ (before : Bool) (hs : List Interval) (w : PropResult) (b : List Interval) where
-  pub branch-lost : isConflict w ≡ true → alive before hs ≡ survive (alive before hs) w b
-  unfolding survive
-  branch-lost c = lost w c
-    where
-      lost : (w : PropResult) → isConflict w ≡ true → alive before hs ≡ survive (alive before hs) w b
-      lost Conflict c = refl
-      lost Changed c = absurd (let z : _≡_ {A = ℕ} 0 1 = cc in omega arith)
-      lost Stable c = absurd (let z : _≡_ {A = ℕ} 0 1 = cc in omega arith)
+  pub branch-lost : isConflict w ≡ true → alive before hs ≡ survive (alive before hs) (w leaving b)
+  unfolding survive if_then_else_
+  branch-lost c = simp c
 
-  pub branch-first : isConflict w ≡ false → before ≡ false → some b ≡ survive (alive before hs) w b
-  unfolding survive
-  branch-first c n = first w c ∙ ap (λ (t : Bool). survive (alive t hs) w b) (sym n)
-    where
-      first : (w : PropResult) → isConflict w ≡ false → some b ≡ survive none w b
-      first Conflict c = absurd (let z : _≡_ {A = ℕ} 0 1 = cc in omega arith)
-      first Changed c = refl
-      first Stable c = refl
+  pub branch-first : isConflict w ≡ false → before ≡ false → some b ≡ survive (alive before hs) (w leaving b)
+  unfolding survive hullWith if_then_else_
+  branch-first c n = simp (c, n)
 
-  pub branch-joins : isConflict w ≡ false → before ≡ true → some (hulls hs b) ≡ survive (alive before hs) w b
-  unfolding survive
-  branch-joins c n = joins w c ∙ ap (λ (t : Bool). survive (alive t hs) w b) (sym n)
-    where
-      joins : (w : PropResult) → isConflict w ≡ false → some (hulls hs b) ≡ survive (some hs) w b
-      joins Conflict c = absurd (let z : _≡_ {A = ℕ} 0 1 = cc in omega arith)
-      joins Changed c = refl
-      joins Stable c = refl
+  pub branch-joins : isConflict w ≡ false → before ≡ true → some (hulls hs b) ≡ survive (alive before hs) (w leaving b)
+  unfolding survive hullWith if_then_else_
+  branch-joins c n = simp (c, n)
 
 -- ---- the boxes after an Or
 module _ (σ : Settings) (h old : Interval) {new : Interval} (e : new ≡ intersect h old) where
@@ -181,7 +167,7 @@ module _ (σ : Settings) (H X₀ X : List Interval) (i : ℕ) (w : PropResult) (
     where
       step : worseOf (t .result) w leaving (t .interval ∷ drop i X) ≡ adopt σ (getD H (i - 1) missing ∷ drop i H) (getD X₀ (i - 1) missing ∷ drop i X₀)
       step =
-          ap₂ (λ (x : Tightened) (r : Narrowed). worseOf (x .result) (r .result) leaving (x .interval ∷ r .boxes))
+          ap₂ (λ (x : Tightened) (r : Narrowed). worseOf (x .result) (r .answer) leaving (x .interval ∷ r .places))
           (is ∙ ap (tightened σ (getD H (i - 1) missing)) here) done
 
 module _ (σ : Settings) (hull : Boxes) (lo₀ hi₀ : List Float) where

@@ -4,6 +4,5 @@ mod Vars
 mod Back
 mod Atoms
 mod Branches
-mod Rounds
 mod Passes
-mod Calls
+mod Given

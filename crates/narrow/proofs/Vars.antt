@@ -9,8 +9,9 @@ use Rattle.settings.specs.declared.Settings.{Settings}
 use Rattle.interval.specs.declared.Interval.{Interval}
 use Rattle.interval.specs.Interval.{isEmpty, intersect, moves}
 use Rattle.interval.specs.Boxes.{missing}
+use Rattle.record.specs.Leaving.{_leaving_}
 use Rattle.narrow.specs.declared.PropResult.the-variants.{Changed, Stable, Conflict}
-use Rattle.narrow.specs.Narrowing.{_leaving_, narrowVar}
+use Rattle.narrow.specs.Narrowing.{narrowVar}
 
 module _ (σ : Settings) (i : ℕ) (out : Interval) (b : List Interval) {old new : Interval} (e₁ : old ≡ getD b i missing) (e₂ : new ≡ intersect old out) where
   pub var-empty : isEmpty new ≡ true → Conflict leaving b ≡ narrowVar σ i out b

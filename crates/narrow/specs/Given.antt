@@ -4,17 +4,14 @@ use mathlib.Core.Bool.{Bool, true, false}
 use mathlib.Core.List.{List, [], _∷_}
 use lib.Ieee.{Float}
 use Rattle.settings.specs.declared.Settings.{Settings}
-use Rattle.settings.specs.Settings.{usual}
 use Rattle.interval.specs.declared.Interval.{Interval}
 use Rattle.interval.specs.Boxes.{intervals, areBoxes}
+use Rattle.record.specs.Leaving.{Leaving, _leaving_}
 use Rattle.constraint.specs.Constraint.{Constraint}
 use Rattle.file.specs.File.{Read, readGiven}
 use Rattle.narrow.specs.declared.Propagated.{Propagated}
-use Rattle.narrow.specs.Narrowing.{propagate}
-
-infix 20 _leaving_and_
-pub data Outcome : Type 0 where
-  _leaving_and_ : Propagated → List Float → List Float → Outcome
+use Rattle.narrow.specs.declared.Propagated.the-variants.{Refused, Answered}
+use Rattle.narrow.specs.Narrowing.{Narrowed, propagate}
 
 abbrev pub lows : List Interval → List Float
 lows [] = []
@@ -24,15 +21,18 @@ abbrev pub highs : List Interval → List Float
 highs [] = []
 highs (i ∷ is) = i .hi ∷ highs is
 
--- 9 where the lists are not boxes; else what the narrowing answers, and the boxes that it leaves
-abbrev pub inBoxes : Bool → Settings → Constraint → List Float → List Float → Outcome
-inBoxes false σ c lo hi = Propagated.Refused 9 leaving lo and hi
-inBoxes true σ c lo hi = let x = propagate σ c (intervals lo hi) in Propagated.Answered (x .result) leaving lows (x .boxes) and highs (x .boxes)
+abbrev pub ends : List Interval → List Float × List Float
+ends is = (lows is, highs is)
 
--- before that the records' own refusal, 2 to 7
-abbrev pub byRecords : Settings → Read → List Float → List Float → Outcome
-byRecords σ (Read.Refused r) lo hi = Propagated.Refused r leaving lo and hi
-byRecords σ (Read.Accepted c bounds) lo hi = inBoxes (areBoxes lo hi) σ c lo hi
+-- the records' own refusal, 2 to 7; 9 where what is given is no list of boxes; a refusal alters nothing
+unfoldable pub tested : {B : Type 0} → Read → Bool → B → (Constraint → Leaving Propagated B) → Leaving Propagated B
+tested (Read.Refused r) are b next = Refused r leaving b
+tested (Read.Accepted c bounds) false b next = Refused 9 leaving b
+tested (Read.Accepted c bounds) true b next = next c
 
-unfoldable pub propagateGiven : List ℕ → List ℕ → List Float → List Float → Outcome
-propagateGiven nodes constraints lo hi = byRecords usual (readGiven nodes constraints) lo hi
+-- what the narrowing answers, and the boxes that it leaves, as the call has them
+abbrev pub answered : {B : Type 0} → (List Interval → B) → Narrowed → Leaving Propagated B
+answered f x = Answered (x .answer) leaving f (x .places)
+
+unfoldable pub propagateGiven : Settings → List ℕ → List ℕ → List Float → List Float → Leaving Propagated (List Float × List Float)
+propagateGiven σ nodes constraints lo hi = tested (readGiven nodes constraints) (areBoxes lo hi) (lo, hi) (λ c. answered ends (propagate σ c (intervals lo hi)))

@@ -1,18 +1,17 @@
 -- The constants of a constraint that is read from records are f64 values. Assumes nothing.
-use Prim.Native.Nat.{ℕ, zero, suc, _-_}
+use Prim.Native.Nat.{ℕ, zero, suc}
 use mathlib.Core.List.{List, [], _∷_, _++_}
-use lib.ListN.{length, getD, take, drop}
+use lib.ListN.{getD}
 use lib.Ieee.{binary64}
 use lib.Ieee.Bits.{ofBits-fits}
 use Rattle.interval.specs.Choices.{either}
 use Rattle.interval.specs.Inside.{Held}
 use Rattle.tree.specs.Tree.{Tree}
-use Rattle.tree.specs.Bytes.{f64At}
+use Rattle.record.specs.Bytes.{f64At}
 use Rattle.tree.specs.declared.Node.{Node}
 use Rattle.tree.specs.Nodes.{nodeAt, treeOf, trees, treeAt}
-use Rattle.constraint.specs.declared.Record.{Record}
-use Rattle.constraint.specs.Records.{recordAt, takes, gather, none as noneLeft, finish, finished, constraintAt}
-use Rattle.constraint.specs.Constraint.{Constraint, Constraints, Atom, Not, And, Or, ForAll, Exists, end, _⨾_}
+use Rattle.constraint.specs.Records.{formulaAt, constraintAt}
+use Rattle.constraint.specs.Constraint.{Formula, Formulas, Constraint, Constraints, Atom, Not, And, Or, ForAll, Exists, end, _⨾_, mapFormula, mapFormulas}
 
 -- ---- the constants of a constraint are f64 values
 abbrev pub TreeHeld : Tree → Type 0
@@ -75,48 +74,21 @@ module _ (nodes : List ℕ) where
   unfolding treeAt
   tree-held k = of-held (trees nodes k) (nodeAt nodes k) (trees-held k) (node-held k)
 
-  abbrev EachHeld : List Constraint → Type 0
-  EachHeld [] = Unit {0}
-  EachHeld (c ∷ cs) = ConstraintHeld c × EachHeld cs
+  mutual
+    unfolding mapFormula
 
-  gather-held : (cs : List Constraint) → EachHeld cs → ConstraintsHeld (gather cs)
-  unfolding gather
-  gather-held [] h = tt
-  gather-held (c ∷ cs) h = (h .0, gather-held cs (h .1))
+    formula-held : (c : Formula ℕ) → ConstraintHeld (mapFormula (treeAt nodes) c)
+    formula-held (Atom rel i) = tree-held i
+    formula-held (Not c) = formula-held c
+    formula-held (And cs) = formulas-held cs
+    formula-held (Or cs) = formulas-held cs
+    formula-held (ForAll v lo hi c) = formula-held c
+    formula-held (Exists v lo hi c) = formula-held c
 
-  first-held : (cs : List Constraint) → EachHeld cs → ConstraintHeld (getD cs 0 noneLeft)
-  first-held [] h = tt
-  first-held (c ∷ cs) h = h .0
-
-  finish-held : (r : Record) (cs : List Constraint) → EachHeld cs → ConstraintHeld (finish nodes r cs)
-  unfolding finish
-  finish-held (Record.Atom rel i) cs h = tree-held i
-  finish-held Record.Not cs h = first-held cs h
-  finish-held (Record.And m) cs h = gather-held cs h
-  finish-held (Record.Or m) cs h = gather-held cs h
-  finish-held (Record.ForAll v lo hi) cs h = first-held cs h
-  finish-held (Record.Exists v lo hi) cs h = first-held cs h
-
-  drop-held : (n : ℕ) (cs : List Constraint) → EachHeld cs → EachHeld (drop n cs)
-  drop-held zero cs h = h
-  drop-held (suc n) [] h = tt
-  drop-held (suc n) (c ∷ cs) h = drop-held n cs (h .1)
-
-  last-held : (n : ℕ) (cs : List Constraint) (c : Constraint) → EachHeld cs → ConstraintHeld c → EachHeld (take n cs ++ c ∷ [])
-  last-held zero cs c h k = (k, tt)
-  last-held (suc n) [] c h k = (k, tt)
-  last-held (suc n) (x ∷ cs) c h k = (h .0, last-held n cs c (h .1) k)
-
-  finished-held : (b : List ℕ) (k : ℕ) → EachHeld (finished nodes b k)
-  unfolding finished
-  finished-held b zero = tt
-  finished-held b (suc k) =
-      let before = finished nodes b k in
-      let base = length before - takes (recordAt b k) in
-      last-held base before _ (finished-held b k) (finish-held (recordAt b k) (drop base before) (drop-held base before (finished-held b k)))
+    formulas-held : (cs : Formulas ℕ) → ConstraintsHeld (mapFormulas (treeAt nodes) cs)
+    formulas-held end = tt
+    formulas-held (c ⨾ cs) = (formula-held c, formulas-held cs)
 
   pub constraint-held : (b : List ℕ) (k : ℕ) → ConstraintHeld (constraintAt nodes b k)
   unfolding constraintAt
-  constraint-held b k =
-      let before = finished nodes b k in
-      finish-held (recordAt b k) _ (drop-held (length before - takes (recordAt b k)) before (finished-held b k))
+  constraint-held b k = formula-held (formulaAt b k)

@@ -1,20 +1,24 @@
 -- Narrowing by a normal form without building it: the recursion that the code makes, and that it is the definition's. Assumes nothing.
+use Prim.Native.Nat.{ℕ}
 use mathlib.Core.Path.{_≡_, refl, ap, _∙_}
 use mathlib.Core.List.{List}
 use mathlib.Core.Option.{Option, none, some}
-use mathlib.Core.Bool.{Bool, true, false}
+use mathlib.Core.Bool.{Bool, true, false, not}
 use Rattle.settings.specs.declared.Settings.{Settings}
 use Rattle.interval.specs.declared.Interval.{Interval}
+use Rattle.constraint.specs.declared.Record.{Record}
 use Rattle.constraint.specs.declared.Relation.{Relation}
 use Rattle.constraint.specs.Constraint.{Constraint, Constraints, Atom, Not, And, Or, ForAll, Exists, end, _⨾_}
 use Rattle.normal.specs.NormalForm.{oppositeOf, toNnf, negate, toNnfAll, negateAll}
-use Rattle.narrow.specs.declared.PropResult.{PropResult}
-use Rattle.narrow.specs.declared.PropResult.the-variants.{Changed, Stable, Conflict}
+use Rattle.narrow.specs.declared.PropResult.the-variants.{Stable}
 use Rattle.interval.specs.Boxes.{boxesOf}
+use Rattle.record.specs.Leaving.{_leaving_}
 use Rattle.narrow.specs.declared.Survivors.{Survivors}
+use Rattle.narrow.specs.declared.Step.{Step}
 use Rattle.narrow.specs.declared.Mode.{Mode}
 use Rattle.narrow.specs.declared.Mode.the-variants.{Written, Normal, Negated}
-use Rattle.narrow.specs.Narrowing.{Narrowed, _leaving_, worseOf, narrowAtom, continue, survive, adoptSurvivors, round, roundAll, survivors, propagateOnce}
+use Rattle.narrow.specs.Narrowing.{Narrowed, isConflict, joined, narrowAtom, continue, survive, adoptSurvivors, round, roundAll, survivors, propagateOnce}
+use Rattle.number.specs.Notation.{if_then_else_}
 
 -- a constraint as it is written, its normal form, its negation
 abbrev pub underNot : Mode → Mode
@@ -39,11 +43,6 @@ isNegated Normal = false
 isNegated Negated = true
 
 -- ---- what the code holds
-abbrev pub isConflict : PropResult → Bool
-isConflict Conflict = true
-isConflict Changed = false
-isConflict Stable = false
-
 abbrev pub alive : Bool → List Interval → Option (List Interval)
 alive true b = some b
 alive false b = none
@@ -52,44 +51,46 @@ abbrev pub survivorsOf : Survivors → Option (List Interval)
 survivorsOf s = alive (s .any) (boxesOf (s .hull))
 
 -- ---- a round
+-- one of several is to hold, or all
+abbrev pub oneOrAll : Bool → Narrowed → Narrowed → Narrowed
+oneOrAll true one all = one
+oneOrAll false one all = all
+
 unfoldable mutual
   pub pass : Settings → Mode → Constraint → List Interval → Narrowed
   pass σ w (Atom rel t) b = narrowAtom σ (relationIn w rel) t b
   pass σ w (Not c) b = pass σ (underNot w) c b
-  pass σ Written (And cs) b = passAll σ Written cs b
-  pass σ Normal (And cs) b = passAll σ Normal cs b
-  pass σ Negated (And cs) b = adoptSurvivors σ (passAny σ Negated cs b none) b
-  pass σ Written (Or cs) b = adoptSurvivors σ (passAny σ Written cs b none) b
-  pass σ Normal (Or cs) b = adoptSurvivors σ (passAny σ Normal cs b none) b
-  pass σ Negated (Or cs) b = passAll σ Negated cs b
+  pass σ w (And cs) b = oneOrAll (isNegated w) (adoptSurvivors σ (passAny σ w cs b none) b) (passAll σ w cs b)
+  pass σ w (Or cs) b = oneOrAll (not (isNegated w)) (adoptSurvivors σ (passAny σ w cs b none) b) (passAll σ w cs b)
   pass σ w (ForAll v lo hi c) b = Stable leaving b
   pass σ w (Exists v lo hi c) b = Stable leaving b
 
   pub passAll : Settings → Mode → Constraints → List Interval → Narrowed
   passAll σ w end b = Stable leaving b
-  passAll σ w (c ⨾ cs) b = let x = pass σ w c b in continue (x .result) (x .boxes) (passAll σ w cs)
+  passAll σ w (c ⨾ cs) b = continue (pass σ w c b) (passAll σ w cs)
 
   pub passAny : Settings → Mode → Constraints → List Interval → Option (List Interval) → Option (List Interval)
   passAny σ w end b so-far = so-far
-  passAny σ w (c ⨾ cs) b so-far = let x = pass σ w c b in passAny σ w cs b (survive so-far (x .result) (x .boxes))
+  passAny σ w (c ⨾ cs) b so-far = passAny σ w cs b (survive so-far (pass σ w c b))
 
--- one branch of an Or, and a whole Or
-abbrev pub passInto : Settings → Mode → Constraint → List Interval → Option (List Interval) → Option (List Interval)
-passInto σ w c b so-far = survive so-far (pass σ w c b .result) (pass σ w c b .boxes)
+-- what a round does with a record
+abbrev pub severalOf : Bool → ℕ → Step
+severalOf true m = Step.Any m
+severalOf false m = Step.All m
 
-abbrev pub passOne : Settings → Mode → Constraints → List Interval → Narrowed
-passOne σ w cs b = adoptSurvivors σ (passAny σ w cs b none) b
+unfoldable pub stepOf : Mode → Record → Step
+stepOf w (Record.Atom rel i) = Step.Atom (relationIn w rel) i
+stepOf w Record.Not = Step.Inside (underNot w)
+stepOf w (Record.And m) = severalOf (isNegated w) m
+stepOf w (Record.Or m) = severalOf (not (isNegated w)) m
+stepOf w (Record.ForAll v lo hi) = Step.Nothing
+stepOf w (Record.Exists v lo hi) = Step.Nothing
 
 -- ---- the same as the definition's
 -- one step of And, by two narrowings that are equal
-pub continue-same : (r : PropResult) (b : List Interval) (f g : List Interval → Narrowed) → ((x : List Interval) → f x ≡ g x) → continue r b f ≡ continue r b g
+pub step : (x y : Narrowed) (f g : List Interval → Narrowed) → x ≡ y → ((b : List Interval) → f b ≡ g b) → continue x f ≡ continue y g
 unfolding continue
-continue-same Conflict b f g h = refl
-continue-same Changed b f g h = ap (λ (y : Narrowed). worseOf Changed (y .result) leaving y .boxes) (h b)
-continue-same Stable b f g h = h b
-
-step : (x y : Narrowed) (f g : List Interval → Narrowed) → x ≡ y → ((b : List Interval) → f b ≡ g b) → continue (x .result) (x .boxes) f ≡ continue (y .result) (y .boxes) g
-step x y f g e h = ap (λ (r : Narrowed). continue (r .result) (r .boxes) f) e ∙ continue-same (y .result) (y .boxes) f g h
+step x y f g e h = ap (λ (z : Narrowed). continue z f) e ∙ ap (λ (z : Narrowed). if isConflict (y .answer) then y else joined (y .answer) z) (h (y .places))
 
 module _ (σ : Settings) (u : Constraint → List Interval → Narrowed) where
   mutual
@@ -121,11 +122,11 @@ module _ (σ : Settings) (u : Constraint → List Interval → Narrowed) where
 
     normal-any : (cs : Constraints) (b : List Interval) (hs : Option (List Interval)) → passAny σ Normal cs b hs ≡ survivors σ u (toNnfAll cs) b hs
     normal-any end b hs = refl
-    normal-any (c ⨾ cs) b hs = ap (λ (x : Narrowed). passAny σ Normal cs b (survive hs (x .result) (x .boxes))) (normal-is c b) ∙ normal-any cs b _
+    normal-any (c ⨾ cs) b hs = ap (λ (x : Narrowed). passAny σ Normal cs b (survive hs x)) (normal-is c b) ∙ normal-any cs b _
 
     negated-any : (cs : Constraints) (b : List Interval) (hs : Option (List Interval)) → passAny σ Negated cs b hs ≡ survivors σ u (negateAll cs) b hs
     negated-any end b hs = refl
-    negated-any (c ⨾ cs) b hs = ap (λ (x : Narrowed). passAny σ Negated cs b (survive hs (x .result) (x .boxes))) (negated-is c b) ∙ negated-any cs b _
+    negated-any (c ⨾ cs) b hs = ap (λ (x : Narrowed). passAny σ Negated cs b (survive hs x)) (negated-is c b) ∙ negated-any cs b _
 
 -- what the definition does under a Not
 abbrev inner : Settings → Constraint → List Interval → Narrowed
@@ -149,7 +150,7 @@ module _ (σ : Settings) where
 
     written-any : (cs : Constraints) (b : List Interval) (hs : Option (List Interval)) → passAny σ Written cs b hs ≡ survivors σ (inner σ) cs b hs
     written-any end b hs = refl
-    written-any (c ⨾ cs) b hs = ap (λ (x : Narrowed). passAny σ Written cs b (survive hs (x .result) (x .boxes))) (written-is c b) ∙ written-any cs b _
+    written-any (c ⨾ cs) b hs = ap (λ (x : Narrowed). passAny σ Written cs b (survive hs x)) (written-is c b) ∙ written-any cs b _
 
   pub pass-is : (w : Mode) (c : Constraint) (b : List Interval) → pass σ w c b ≡ propagateOnce σ (inMode w c) b
   unfolding propagateOnce toNnf

@@ -1,6 +1,6 @@
 -- Narrowing (document 01; interval.rs): `eval_interval`, `backward_propagate` and `propagate_once`, step by step.
 use Prim.Native.Nat.{ℕ, zero, suc, _^_}
-use mathlib.Core.Bool.{not, _&&_, _||_}
+use mathlib.Core.Bool.{Bool, true, false, not, _&&_, _||_}
 use mathlib.Core.List.{List, [], _∷_}
 use mathlib.Core.Option.{Option, none, some}
 use lib.Dec.{ltb}
@@ -14,6 +14,7 @@ use Rattle.settings.specs.declared.Settings.{Settings}
 use Rattle.interval.specs.declared.Interval.{Interval}
 use Rattle.interval.specs.Interval.{_‥_, isEmpty, width, contains, intersect, hull, nothing, exp, hasLn, ln, plus, minus, moves}
 use Rattle.interval.specs.Boxes.{missing}
+use Rattle.record.specs.Leaving.{Leaving, _leaving_}
 use Rattle.tree.specs.Tree.{Tree}
 use Rattle.constraint.specs.declared.Relation.{Relation}
 use Rattle.constraint.specs.declared.Relation.the-variants.{EqZero, GtZero, GeZero, LtZero, LeZero, NeZero}
@@ -29,14 +30,14 @@ use Rattle.narrow.specs.declared.Tightened.{Tightened}
 use Rattle.narrow.specs.declared.Target.{Target}
 use Rattle.narrow.specs.declared.Target.the-variants.{Stop, Out, Nudge}
 
-infix 20 _leaving_
 -- what a step answers, and the boxes that it leaves
-pub record Narrowed : Type 0 where
-  pub result : PropResult
-  pub boxes : List Interval
+abbrev pub Narrowed : Type 0
+Narrowed = Leaving PropResult (List Interval)
 
-abbrev pub _leaving_ : PropResult → List Interval → Narrowed
-w leaving b = record { result = w; boxes = b }
+abbrev pub isConflict : PropResult → Bool
+isConflict Conflict = true
+isConflict Changed = false
+isConflict Stable = false
 
 -- of two steps: Conflict if either says so, else Changed if either does
 abbrev pub worseOf : PropResult → PropResult → PropResult
@@ -46,11 +47,13 @@ worseOf Changed Changed = Changed
 worseOf Changed Stable = Changed
 worseOf Stable y = y
 
+-- a step after others, which answered w
+abbrev pub joined : PropResult → Narrowed → Narrowed
+joined w x = worseOf w (x .answer) leaving x .places
+
 -- after a step, the next one on the boxes that it left, unless it met a Conflict
-unfoldable pub continue : PropResult → List Interval → (List Interval → Narrowed) → Narrowed
-continue Conflict b next = Conflict leaving b
-continue Changed b next = let y = next b in worseOf Changed (y .result) leaving y .boxes
-continue Stable b next = next b
+unfoldable pub continue : Narrowed → (List Interval → Narrowed) → Narrowed
+continue x next = if isConflict (x .answer) then x else joined (x .answer) (next (x .places))
 
 -- ---- forward: the interval of a tree's values, where real arithmetic can tell
 unfoldable pub emlInterval : Interval → Interval → Values
@@ -93,10 +96,7 @@ demand Unknown r out = Answer Stable
 -- left first; then right, asked what was computed before left wrote, also after a Conflict
 unfoldable pub askBoth : Demand → (Interval → List Interval → Narrowed) → (Interval → List Interval → Narrowed) → List Interval → Narrowed
 askBoth (Answer w) left right b = w leaving b
-askBoth (Ask l r) left right b =
-    let x = left l b in
-    let y = right r (x .boxes) in
-    worseOf (x .result) (y .result) leaving y .boxes
+askBoth (Ask l r) left right b = let x = left l b in joined (x .answer) (right r (x .places))
 
 -- a node of the one value v
 unfoldable pub fixedAt : Float → Interval → PropResult
@@ -116,6 +116,10 @@ backward σ (Tree.Var i) out b = if isEmpty out then Conflict leaving b else nar
 backward σ (Tree.Eml l r) out b =
     if isEmpty out then Conflict leaving b else askBoth (demand (evalInterval b l) (evalInterval b r) out) (backward σ l) (backward σ r) b
 
+-- an Eml of l and r that is to lie in out, which is not empty
+abbrev pub backwardEml : Settings → Tree → Tree → Interval → List Interval → Narrowed
+backwardEml σ l r out b = askBoth (demand (evalInterval b l) (evalInterval b r) out) (backward σ l) (backward σ r) b
+
 -- ---- one atom
 -- four times the f64 epsilon
 abbrev pub eps : Float
@@ -134,7 +138,10 @@ targetOf σ NeZero v = if (width v ≺ σ .slack) && (absOf (v .lo) ≺ σ .slac
 unfoldable pub nudgeVar : ℕ → List Interval → Narrowed
 nudgeVar i b =
     let v = getD b i missing in
-    if not (ltb i (length b)) then Stable leaving b else if eq (v .lo) (whole 0) && (whole 0 ≺ v .hi) then Changed leaving set b i (nextUp binary64 (whole 0) ‥ v .hi) else if eq (v .hi) (whole 0) && (v .lo ≺ whole 0) then Changed leaving set b i (v .lo ‥ nextDown binary64 (whole 0)) else Stable leaving b
+    if not (ltb i (length b)) then Stable leaving b
+    else if eq (v .lo) (whole 0) && (whole 0 ≺ v .hi) then Changed leaving set b i (nextUp binary64 (whole 0) ‥ v .hi)
+    else if eq (v .hi) (whole 0) && (v .lo ≺ whole 0) then Changed leaving set b i (v .lo ‥ nextDown binary64 (whole 0))
+    else Stable leaving b
 
 unfoldable pub nudgeTree : Tree → List Interval → Narrowed
 nudgeTree Tree.One b = Stable leaving b
@@ -161,13 +168,13 @@ hulls [] is = []
 hulls (h ∷ hs) [] = []
 hulls (h ∷ hs) (i ∷ is) = hull h i ∷ hulls hs is
 
+unfoldable pub hullWith : Option (List Interval) → List Interval → List Interval
+hullWith none b = b
+hullWith (some hs) b = hulls hs b
+
 -- after one more branch
-unfoldable pub survive : Option (List Interval) → PropResult → List Interval → Option (List Interval)
-survive so-far Conflict b = so-far
-survive none Changed b = some b
-survive none Stable b = some b
-survive (some hs) Changed b = some (hulls hs b)
-survive (some hs) Stable b = some (hulls hs b)
+unfoldable pub survive : Option (List Interval) → Narrowed → Option (List Interval)
+survive so-far x = if isConflict (x .answer) then so-far else some (hullWith so-far (x .places))
 
 -- the hull, intersected with the original, is written where an end moves
 unfoldable pub tightened : Settings → Interval → Interval → Tightened
@@ -181,7 +188,7 @@ adopt σ (h ∷ hs) [] = Stable leaving []
 adopt σ (h ∷ hs) (i ∷ is) =
     let x = tightened σ h i in
     let rest = adopt σ hs is in
-    worseOf (x .result) (rest .result) leaving (x .interval ∷ rest .boxes)
+    worseOf (x .result) (rest .answer) leaving (x .interval ∷ rest .places)
 
 unfoldable pub adoptSurvivors : Settings → Option (List Interval) → List Interval → Narrowed
 adoptSurvivors σ none b = Conflict leaving b
@@ -199,25 +206,29 @@ unfoldable mutual
 
   pub roundAll : Settings → (Constraint → List Interval → Narrowed) → Constraints → List Interval → Narrowed
   roundAll σ under end b = Stable leaving b
-  roundAll σ under (c ⨾ cs) b = let x = round σ under c b in continue (x .result) (x .boxes) (roundAll σ under cs)
+  roundAll σ under (c ⨾ cs) b = continue (round σ under c b) (roundAll σ under cs)
 
   pub survivors : Settings → (Constraint → List Interval → Narrowed) → Constraints → List Interval → Option (List Interval) → Option (List Interval)
   survivors σ under end b so-far = so-far
-  survivors σ under (c ⨾ cs) b so-far = let x = round σ under c b in survivors σ under cs b (survive so-far (x .result) (x .boxes))
+  survivors σ under (c ⨾ cs) b so-far = survivors σ under cs b (survive so-far (round σ under c b))
 
 -- Under a Not the Rust narrows by the normal form of what is inside, which is not its negation. A normal form has no Not.
 unfoldable pub propagateOnce : Settings → Constraint → List Interval → Narrowed
 propagateOnce σ c b = round σ (λ d. round σ (λ e b′. Stable leaving b′) (toNnf d)) c b
 
 -- ---- rounds, until nothing changes
-unfoldable pub again : PropResult → List Interval → (List Interval → Narrowed) → Narrowed
-again Conflict b next = Conflict leaving b
-again Stable b next = Stable leaving b
-again Changed b next = let y = next b in worseOf Changed (y .result) leaving y .boxes
+abbrev pub isChanged : PropResult → Bool
+isChanged Changed = true
+isChanged Stable = false
+isChanged Conflict = false
+
+-- after a round that changed a box, the next one
+unfoldable pub again : Narrowed → (List Interval → Narrowed) → Narrowed
+again x next = if isChanged (x .answer) then joined (x .answer) (next (x .places)) else x
 
 unfoldable pub rounds : Settings → ℕ → Constraint → List Interval → Narrowed
 rounds σ zero c b = Stable leaving b
-rounds σ (suc n) c b = let x = propagateOnce σ c b in again (x .result) (x .boxes) (rounds σ n c)
+rounds σ (suc n) c b = again (propagateOnce σ c b) (rounds σ n c)
 
 unfoldable pub propagate : Settings → Constraint → List Interval → Narrowed
 propagate σ c b = rounds σ (σ .rounds) c b

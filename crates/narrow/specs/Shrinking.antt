@@ -22,8 +22,6 @@ use Rattle.constraint.specs.declared.Relation.{Relation}
 use Rattle.constraint.specs.declared.Relation.the-variants.{EqZero, GtZero, GeZero, LtZero, LeZero, NeZero}
 use Rattle.constraint.specs.Constraint.{Constraint, Constraints, Atom, Not, And, Or, ForAll, Exists, end, _⨾_}
 use Rattle.normal.specs.NormalForm.{toNnf, negate, toNnfAll, negateAll}
-use Rattle.narrow.specs.declared.PropResult.{PropResult}
-use Rattle.narrow.specs.declared.PropResult.the-variants.{Changed, Stable, Conflict}
 use Rattle.narrow.specs.declared.Values.{Values}
 use Rattle.narrow.specs.declared.Values.the-variants.{Within, Unknown}
 use Rattle.narrow.specs.declared.Demand.{Demand}
@@ -31,12 +29,13 @@ use Rattle.narrow.specs.declared.Demand.the-variants.{Answer, Ask}
 use Rattle.narrow.specs.declared.Target.{Target}
 use Rattle.narrow.specs.declared.Target.the-variants.{Stop, Out, Nudge}
 use Rattle.narrow.specs.declared.Tightened.{Tightened}
-use Rattle.narrow.specs.Narrowing.{Narrowed, emlInterval, forward, evalInterval, leftOf, askReal, askOf, demand, askBoth, narrowVar, backward, eps, targetOf, nudgeVar, nudgeTree, aim, narrowTo, narrowAtom, continue, hulls, survive, tightened, adopt, adoptSurvivors, round as roundBy, roundAll, survivors, propagateOnce, again, rounds}
+use Rattle.narrow.specs.Narrowing.{Narrowed, emlInterval, forward, evalInterval, leftOf, askReal, askOf, demand, askBoth, narrowVar, backward, eps, targetOf}
+use Rattle.narrow.specs.Narrowing.{nudgeVar, nudgeTree, aim, narrowTo, narrowAtom, continue, hulls, hullWith, survive, tightened, adopt, adoptSurvivors, round as roundBy, roundAll, survivors, propagateOnce, again, rounds}
 use Rattle.narrow.specs.Held.{TreeHeld, ConstraintHeld, ConstraintsHeld}
 
 -- what a step leaves is b, narrowed
 abbrev pub Leaves : List Interval → Narrowed → Type 0
-Leaves b x = Narrower b (x .boxes)
+Leaves b x = Narrower b (x .places)
 
 -- ---- forward
 abbrev EndsIn : Values → Type 0
@@ -80,7 +79,7 @@ unfolding askBoth
 both-leave (Answer w) left right b f p q g = narrower-refl b g
 both-leave (Ask l r) left right b f p q g =
     let x = p l b (f .0) g in
-    narrower-trans b (left l b .boxes) (right r (left l b .boxes) .boxes) x (q r (left l b .boxes) (f .1) (x .proper))
+    narrower-trans b (left l b .places) (right r (left l b .places) .places) x (q r (left l b .places) (f .1) (x .proper))
 
 var-leaves : (σ : Settings) (i : ℕ) → Step (narrowVar σ i)
 unfolding narrowVar
@@ -203,13 +202,10 @@ hulls-ends [] b p q = tt
 hulls-ends (i ∷ is) [] p q = tt
 hulls-ends (i ∷ is) (j ∷ js) p q = (hull-ends i j (p .0) (q .0), hulls-ends is js (p .1) (q .1))
 
-survive-ends : (hs : Option (List Interval)) (w : PropResult) (b : List Interval) → EachIn hs → Each Ends b → EachIn (survive hs w b)
-unfolding survive
-survive-ends hs Conflict b p q = p
-survive-ends none Changed b p q = q
-survive-ends none Stable b p q = q
-survive-ends (some a) Changed b p q = hulls-ends a b p q
-survive-ends (some a) Stable b p q = hulls-ends a b p q
+survive-ends : (hs : Option (List Interval)) (x : Narrowed) → EachIn hs → Each Ends (x .places) → EachIn (survive hs x)
+unfolding survive hullWith
+survive-ends none x p q = either EachIn _ _ _ tt q
+survive-ends (some a) x p q = either EachIn _ _ _ p (hulls-ends a (x .places) p q)
 
 -- the box that an Or leaves
 abbrev Tight : Interval → Tightened → Type 0
@@ -268,11 +264,16 @@ mutual
 abbrev pub Round : (Constraint → List Interval → Narrowed) → Type 0
 Round f = (c : Constraint) (b : List Interval) → ConstraintHeld c → Each Proper b → Leaves b (f c b)
 
-continue-leaves : (w : PropResult) (a b : List Interval) (next : List Interval → Narrowed) → Narrower a b → (Each Proper b → Leaves b (next b)) → Leaves a (continue w b next)
+-- a step, and the next one from where it left
+abbrev Next : Narrowed → (List Interval → Narrowed) → Type 0
+Next x next = Each Proper (x .places) → Leaves (x .places) (next (x .places))
+
+next-leaves : (a : List Interval) (x : Narrowed) (next : List Interval → Narrowed) → Leaves a x → Next x next → Leaves a (next (x .places))
+next-leaves a x next p q = narrower-trans a (x .places) (next (x .places) .places) p (q (p .proper))
+
+continue-leaves : (a : List Interval) (x : Narrowed) (next : List Interval → Narrowed) → Leaves a x → Next x next → Leaves a (continue x next)
 unfolding continue
-continue-leaves Conflict a b next p q = p
-continue-leaves Changed a b next p q = narrower-trans a b (next b .boxes) p (q (p .proper))
-continue-leaves Stable a b next p q = narrower-trans a b (next b .boxes) p (q (p .proper))
+continue-leaves a x next p q = either (Leaves a) _ _ _ p (next-leaves a x next p q)
 
 module _ (σ : Settings) (under : Constraint → List Interval → Narrowed) (u : Round under) where
   mutual
@@ -290,29 +291,24 @@ module _ (σ : Settings) (under : Constraint → List Interval → Narrowed) (u 
     all-leave end b f g = narrower-refl b g
     all-leave (c ⨾ cs) b f g =
         let x = roundBy σ under c b in
-        continue-leaves (x .result) b (x .boxes) (roundAll σ under cs) (round-leaves c b (f .0) g) (λ h. all-leave cs (x .boxes) (f .1) h)
+        continue-leaves b x (roundAll σ under cs) (round-leaves c b (f .0) g) (λ h. all-leave cs (x .places) (f .1) h)
 
     survivors-ends : (cs : Constraints) (b : List Interval) (hs : Option (List Interval)) → ConstraintsHeld cs → Each Proper b → EachIn hs → EachIn (survivors σ under cs b hs)
     survivors-ends end b hs f g a = a
     survivors-ends (c ⨾ cs) b hs f g a =
         let x = roundBy σ under c b in
-        survivors-ends cs b (survive hs (x .result) (x .boxes)) (f .1) g
-        (survive-ends hs (x .result) (x .boxes) a (proper-ends (x .boxes) (round-leaves c b (f .0) g .proper)))
+        survivors-ends cs b (survive hs x) (f .1) g (survive-ends hs x a (proper-ends (x .places) (round-leaves c b (f .0) g .proper)))
 
 once-leaves : (σ : Settings) → Round (propagateOnce σ)
 unfolding propagateOnce
 once-leaves σ = round-leaves σ _ (λ d b f g. round-leaves σ _ (λ e b f g. narrower-refl b g) (toNnf d) b (nnf-held d f) g)
 
 -- ---- rounds
-again-leaves : (w : PropResult) (a b : List Interval) (next : List Interval → Narrowed) → Narrower a b → (Each Proper b → Leaves b (next b)) → Leaves a (again w b next)
+again-leaves : (a : List Interval) (x : Narrowed) (next : List Interval → Narrowed) → Leaves a x → Next x next → Leaves a (again x next)
 unfolding again
-again-leaves Conflict a b next p q = p
-again-leaves Stable a b next p q = p
-again-leaves Changed a b next p q = narrower-trans a b (next b .boxes) p (q (p .proper))
+again-leaves a x next p q = either (Leaves a) _ _ _ (next-leaves a x next p q) p
 
 pub rounds-leave : (σ : Settings) (n : ℕ) → Round (rounds σ n)
 unfolding rounds
 rounds-leave σ zero c b f g = narrower-refl b g
-rounds-leave σ (suc n) c b f g =
-    let x = propagateOnce σ c b in
-    again-leaves (x .result) b (x .boxes) (rounds σ n c) (once-leaves σ c b f g) (λ h. rounds-leave σ n c (x .boxes) f h)
+rounds-leave σ (suc n) c b f g = let x = propagateOnce σ c b in again-leaves b x (rounds σ n c) (once-leaves σ c b f g) (λ h. rounds-leave σ n c (x .places) f h)

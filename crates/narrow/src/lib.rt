@@ -12,21 +12,45 @@ ghost use lib.ListN.{length};
 ghost use Rattle.interval.specs.Interval as Intervals;
 ghost use Rattle.interval.specs.Boxes.{boxesOf};
 ghost use Rattle.tree.specs.Nodes.{Valid};
-ghost use Rattle.tree.specs.Tree.{Eml};
-ghost use Rattle.narrow.specs.Narrowing.{_leaving_, worseOf, emlInterval, forward, evalInterval, leftOf, askReal, askOf, demand as demandOf, askBoth, fixedAt, narrowVar, backward, targetOf, nudgeVar, nudgeTree, narrowAtom, hulls, survive as surviveOf, tightened, adopt as adoptOf, adoptSurvivors, propagate as propagateOf};
+ghost use Rattle.record.specs.Leaving.{_leaving_};
+ghost use Rattle.tree.specs.Views.{theTree};
 ghost use Rattle.constraint.specs.Starts.{Ready, Taken};
-ghost use Rattle.narrow.specs.Modes.{inMode, isNegated, underNot, relationIn, isConflict, survivorsOf, pass, passAll, passAny, passInto, passOne};
-ghost use mathlib.Core.Option.{none};
-ghost use Rattle.narrow.specs.Given.{_leaving_and_, propagateGiven};
-ghost use Rattle.tree.specs.Views.{treeOf};
 ghost use Rattle.constraint.specs.Views.{those, the};
 ghost use Rattle.interval.specs.Views.{before, after};
+ghost use Rattle.settings.specs.Settings.{usual};
+ghost use Rattle.narrow.specs.declared.Values.the-variants.{Within};
+ghost use Rattle.narrow.specs.Narrowing.{isConflict, isChanged, worseOf, emlInterval, forward, evalInterval, leftOf, askReal, askOf, demand as demandOf, askBoth, fixedAt, narrowVar, backward, backwardEml, targetOf, nudgeVar, nudgeTree, narrowAtom, hulls, survive as surviveOf, tightened, adopt as adoptOf, adoptSurvivors, propagate as propagateOf};
+ghost use Rattle.narrow.specs.Modes.{inMode, isNegated, underNot, relationIn, survivorsOf, severalOf, stepOf, pass, passAll, passAny};
+ghost use Rattle.narrow.specs.Aiming.{aimAt};
+ghost use Rattle.narrow.specs.Given.{propagateGiven};
+ghost use mathlib.Core.Option.{none};
+ghost use Rattle.record.specs.Views.{old, final};
 
 // What a step of narrowing did.
 pub enum PropResult {
     Changed,
     Stable,
     Conflict,
+}
+
+pub fn is_conflict(result: PropResult) -> bool
+    ensures { λ r. ⌜ r ≡ isConflict result ⌝ }
+{
+    match result {
+        PropResult::Conflict => true,
+        PropResult::Changed => false,
+        PropResult::Stable => false,
+    }
+}
+
+fn is_changed(result: PropResult) -> bool
+    ensures { λ r. ⌜ r ≡ isChanged result ⌝ }
+{
+    match result {
+        PropResult::Changed => true,
+        PropResult::Stable => false,
+        PropResult::Conflict => false,
+    }
 }
 
 // Of two steps: Conflict if either met one, else Changed if either changed a box.
@@ -42,24 +66,6 @@ fn worse(first: PropResult, second: PropResult) -> PropResult
         },
         PropResult::Stable => second,
     }
-}
-
-fn plus(i: Interval, j: Interval) -> Interval
-    ensures { λ r. ⌜ r ≡ Intervals.plus i j ⌝ }
-{
-    Interval::new(i.lo + j.lo, i.hi + j.hi)
-}
-
-fn minus(i: Interval, j: Interval) -> Interval
-    ensures { λ r. ⌜ r ≡ Intervals.minus i j ⌝ }
-{
-    Interval::new(i.lo - j.hi, i.hi - j.lo)
-}
-
-fn moves(slack: f64, old: Interval, new: Interval) -> bool
-    ensures { λ r. ⌜ r ≡ Intervals.moves slack old new ⌝ }
-{
-    (new.lo > old.lo + slack) | (new.hi < old.hi - slack)
 }
 
 // ---- forward
@@ -78,7 +84,7 @@ fn eml_interval(l: Interval, r: Interval) -> Values
         return Values::Within(Interval::new(1.0 / 0.0, -1.0 / 0.0));
     }
     if r.has_ln() {
-        return Values::Within(minus(l.exp(), r.ln()));
+        return Values::Within(l.exp().minus(r.ln()));
     }
     Values::Unknown
 }
@@ -86,7 +92,7 @@ fn eml_interval(l: Interval, r: Interval) -> Values
 // Of node k's tree.
 pub fn eval_interval(nodes: &[u8], k: usize, lo: &[f64], hi: &[f64]) -> Values
     requires { ⌜ Valid (now nodes) (k + 1) × (length (now hi) ≡ length (now lo)) ⌝ }
-    ensures { λ x. ⌜ x ≡ evalInterval (before lo hi) (treeOf nodes k) ⌝ }
+    ensures { λ x. ⌜ x ≡ evalInterval (before lo hi) (theTree nodes k) ⌝ }
 {
     match tree::node_in(nodes, k) {
         Node::One => Values::Within(Interval::new(1.0, 1.0)),
@@ -99,7 +105,7 @@ pub fn eval_interval(nodes: &[u8], k: usize, lo: &[f64], hi: &[f64]) -> Values
 // Of an Eml of nodes a and b.
 fn eval_eml(nodes: &[u8], a: usize, b: usize, lo: &[f64], hi: &[f64]) -> Values
     requires { ⌜ Valid (now nodes) (a + 1) × Valid (now nodes) (b + 1) × (length (now hi) ≡ length (now lo)) ⌝ }
-    ensures { λ x. ⌜ x ≡ forward (evalInterval (before lo hi) (treeOf nodes a)) (evalInterval (before lo hi) (treeOf nodes b)) ⌝ }
+    ensures { λ x. ⌜ x ≡ forward (evalInterval (before lo hi) (theTree nodes a)) (evalInterval (before lo hi) (theTree nodes b)) ⌝ }
 {
     let Values::Within(l) = eval_interval(nodes, a, lo, hi) else {
         return Values::Unknown;
@@ -133,15 +139,15 @@ fn ask_real(l: Interval, r: Interval, exp_l: Interval, ln_r: Interval, out: Inte
     requires { ⌜ («exp_l» ≡ Intervals.exp l) × («ln_r» ≡ Intervals.ln r) ⌝ }
     ensures { λ x. ⌜ x ≡ askReal l r out ⌝ }
 {
-    let out_c = out.intersect(minus(exp_l, ln_r));
+    let out_c = out.intersect(exp_l.minus(ln_r));
     if out_c.is_empty() {
         return Demand::Answer(PropResult::Conflict);
     }
-    let exp_l_c = exp_l.intersect(plus(out_c, ln_r));
+    let exp_l_c = exp_l.intersect(out_c.plus(ln_r));
     if exp_l_c.is_empty() {
         return Demand::Answer(PropResult::Conflict);
     }
-    let ln_r_c = ln_r.intersect(minus(exp_l, out_c));
+    let ln_r_c = ln_r.intersect(exp_l.minus(out_c));
     if ln_r_c.is_empty() {
         return Demand::Answer(PropResult::Conflict);
     }
@@ -172,8 +178,8 @@ fn fixed_at(v: f64, out: Interval) -> PropResult
 
 // Variable i is to lie in out.
 fn narrow_var(
-    settings: Settings,
     i: usize,
+    settings: Settings,
     out: Interval,
     lo: &mut [f64],
     hi: &mut [f64],
@@ -186,7 +192,7 @@ fn narrow_var(
     if new.is_empty() {
         return PropResult::Conflict;
     }
-    if moves(settings.slack, old, new) {
+    if old.moves(new, settings.slack) {
         // beyond the list there is nothing to write
         if lo.len() <= i {
             return PropResult::Changed;
@@ -198,17 +204,31 @@ fn narrow_var(
     PropResult::Stable
 }
 
+// What an Eml of nodes a and b, which is to lie in out, asks of them.
+fn demand_of(nodes: &[u8], a: usize, b: usize, out: Interval, lo: &[f64], hi: &[f64]) -> Demand
+    requires { ⌜ Valid (now nodes) (a + 1) × Valid (now nodes) (b + 1) × (length (now hi) ≡ length (now lo)) ⌝ }
+    ensures { λ x. ⌜ x ≡ demandOf (evalInterval (before lo hi) (theTree nodes a)) (evalInterval (before lo hi) (theTree nodes b)) out ⌝ }
+{
+    let Values::Within(l) = eval_interval(nodes, a, lo, hi) else {
+        return Demand::Answer(PropResult::Stable);
+    };
+    let Values::Within(r) = eval_interval(nodes, b, lo, hi) else {
+        return Demand::Answer(PropResult::Stable);
+    };
+    ask(l, r, out)
+}
+
 // Node k's tree is to lie in out.
 pub fn backward_propagate(
-    settings: Settings,
     nodes: &[u8],
     k: usize,
+    settings: Settings,
     out: Interval,
     lo: &mut [f64],
     hi: &mut [f64],
 ) -> PropResult
     requires { ⌜ Valid (now nodes) (k + 1) × (length (now hi) ≡ length (now lo)) ⌝ }
-    ensures { λ x. ⌜ (x leaving after lo hi) ≡ backward settings (treeOf nodes k) out (before lo hi) ⌝ }
+    ensures { λ x. ⌜ (x leaving after lo hi) ≡ backward settings (theTree nodes k) out (before lo hi) ⌝ }
 {
     if out.is_empty() {
         return PropResult::Conflict;
@@ -216,51 +236,46 @@ pub fn backward_propagate(
     match tree::node_in(nodes, k) {
         Node::One => fixed_at(1.0, out),
         Node::Const(v) => fixed_at(v, out),
-        Node::Var(i) => narrow_var(settings, i, out, lo, hi),
-        Node::Eml(a, b) => backward_eml(settings, nodes, a, b, out, lo, hi),
+        Node::Var(i) => narrow_var(i, settings, out, lo, hi),
+        Node::Eml(a, b) => backward_eml(nodes, a, b, settings, out, lo, hi),
     }
 }
 
 // An Eml of nodes a and b is to lie in out.
 fn backward_eml(
-    settings: Settings,
     nodes: &[u8],
     a: usize,
     b: usize,
+    settings: Settings,
     out: Interval,
     lo: &mut [f64],
     hi: &mut [f64],
 ) -> PropResult
     requires { ⌜ Valid (now nodes) (a + 1) × Valid (now nodes) (b + 1) × (length (now hi) ≡ length (now lo)) ⌝ }
-    ensures { λ x. ⌜ (x leaving after lo hi) ≡ askBoth (demandOf (evalInterval (before lo hi) (treeOf nodes a)) (evalInterval (before lo hi) (treeOf nodes b)) out) (backward settings (treeOf nodes a)) (backward settings (treeOf nodes b)) (before lo hi) ⌝ }
+    ensures { λ x. ⌜ (x leaving after lo hi) ≡ backwardEml settings (theTree nodes a) (theTree nodes b) out (before lo hi) ⌝ }
 {
-    let Values::Within(l) = eval_interval(nodes, a, lo, hi) else {
-        return PropResult::Stable;
-    };
-    let Values::Within(r) = eval_interval(nodes, b, lo, hi) else {
-        return PropResult::Stable;
-    };
-    backward_both(settings, nodes, a, b, ask(l, r, out), lo, hi)
+    let demand = demand_of(nodes, a, b, out, lo, hi);
+    backward_both(nodes, a, b, settings, demand, lo, hi)
 }
 
 // What an Eml of nodes a and b asks of them. Right is asked what was computed before left wrote, also after left's Conflict.
 fn backward_both(
-    settings: Settings,
     nodes: &[u8],
     a: usize,
     b: usize,
+    settings: Settings,
     demand: Demand,
     lo: &mut [f64],
     hi: &mut [f64],
 ) -> PropResult
     requires { ⌜ Valid (now nodes) (a + 1) × Valid (now nodes) (b + 1) × (length (now hi) ≡ length (now lo)) ⌝ }
-    ensures { λ x. ⌜ (x leaving after lo hi) ≡ askBoth demand (backward settings (treeOf nodes a)) (backward settings (treeOf nodes b)) (before lo hi) ⌝ }
+    ensures { λ x. ⌜ (x leaving after lo hi) ≡ askBoth demand (backward settings (theTree nodes a)) (backward settings (theTree nodes b)) (before lo hi) ⌝ }
 {
     match demand {
         Demand::Answer(result) => result,
         Demand::Ask(left, right) => {
-            let first = backward_propagate(settings, nodes, a, left, lo, hi);
-            let second = backward_propagate(settings, nodes, b, right, lo, hi);
+            let first = backward_propagate(nodes, a, settings, left, lo, hi);
+            let second = backward_propagate(nodes, b, settings, right, lo, hi);
             worse(first, second)
         }
     }
@@ -278,71 +293,47 @@ pub enum Target {
 // four times the f64 epsilon
 const EPS: f64 = 8.881784197001252e-16;
 
-fn eq_target(settings: Settings, v: Interval) -> Target
-    ensures { λ r. ⌜ r ≡ targetOf settings Relation.EqZero v ⌝ }
-{
-    if (v.lo > 0.0) | (v.hi < 0.0) {
-        return Target::Stop(PropResult::Conflict);
-    }
-    Target::Out(Interval::new(0.0, 0.0))
-}
-
-fn gt_target(settings: Settings, v: Interval) -> Target
-    ensures { λ r. ⌜ r ≡ targetOf settings Relation.GtZero v ⌝ }
-{
-    if v.hi <= 0.0 {
-        return Target::Stop(PropResult::Conflict);
-    }
-    Target::Out(Interval::new(number::max(v.lo, EPS), v.hi))
-}
-
-fn ge_target(settings: Settings, v: Interval) -> Target
-    ensures { λ r. ⌜ r ≡ targetOf settings Relation.GeZero v ⌝ }
-{
-    if v.hi < 0.0 {
-        return Target::Stop(PropResult::Conflict);
-    }
-    Target::Out(Interval::new(number::max(v.lo, 0.0), v.hi))
-}
-
-fn lt_target(settings: Settings, v: Interval) -> Target
-    ensures { λ r. ⌜ r ≡ targetOf settings Relation.LtZero v ⌝ }
-{
-    if v.lo >= 0.0 {
-        return Target::Stop(PropResult::Conflict);
-    }
-    Target::Out(Interval::new(v.lo, number::min(v.hi, -EPS)))
-}
-
-fn le_target(settings: Settings, v: Interval) -> Target
-    ensures { λ r. ⌜ r ≡ targetOf settings Relation.LeZero v ⌝ }
-{
-    if v.lo > 0.0 {
-        return Target::Stop(PropResult::Conflict);
-    }
-    Target::Out(Interval::new(v.lo, number::min(v.hi, 0.0)))
-}
-
-fn ne_target(settings: Settings, v: Interval) -> Target
-    ensures { λ r. ⌜ r ≡ targetOf settings Relation.NeZero v ⌝ }
-{
-    let slack = settings.slack;
-    if (v.width() < slack) & (number::abs(v.lo) < slack) {
-        return Target::Stop(PropResult::Conflict);
-    }
-    Target::Nudge
-}
-
 fn target_of(settings: Settings, relation: Relation, v: Interval) -> Target
     ensures { λ r. ⌜ r ≡ targetOf settings relation v ⌝ }
 {
     match relation {
-        Relation::EqZero => eq_target(settings, v),
-        Relation::GtZero => gt_target(settings, v),
-        Relation::GeZero => ge_target(settings, v),
-        Relation::LtZero => lt_target(settings, v),
-        Relation::LeZero => le_target(settings, v),
-        Relation::NeZero => ne_target(settings, v),
+        Relation::EqZero => {
+            if (v.lo > 0.0) | (v.hi < 0.0) {
+                return Target::Stop(PropResult::Conflict);
+            }
+            Target::Out(Interval::new(0.0, 0.0))
+        }
+        Relation::GtZero => {
+            if v.hi <= 0.0 {
+                return Target::Stop(PropResult::Conflict);
+            }
+            Target::Out(Interval::new(number::max(v.lo, EPS), v.hi))
+        }
+        Relation::GeZero => {
+            if v.hi < 0.0 {
+                return Target::Stop(PropResult::Conflict);
+            }
+            Target::Out(Interval::new(number::max(v.lo, 0.0), v.hi))
+        }
+        Relation::LtZero => {
+            if v.lo >= 0.0 {
+                return Target::Stop(PropResult::Conflict);
+            }
+            Target::Out(Interval::new(v.lo, number::min(v.hi, -EPS)))
+        }
+        Relation::LeZero => {
+            if v.lo > 0.0 {
+                return Target::Stop(PropResult::Conflict);
+            }
+            Target::Out(Interval::new(v.lo, number::min(v.hi, 0.0)))
+        }
+        Relation::NeZero => {
+            let slack = settings.slack;
+            if (v.width() < slack) & (number::abs(v.lo) < slack) {
+                return Target::Stop(PropResult::Conflict);
+            }
+            Target::Nudge
+        }
     }
 }
 
@@ -367,7 +358,7 @@ fn nudge_var(i: usize, lo: &mut [f64], hi: &mut [f64]) -> PropResult
 
 fn nudge(nodes: &[u8], k: usize, lo: &mut [f64], hi: &mut [f64]) -> PropResult
     requires { ⌜ Valid (now nodes) (k + 1) × (length (now hi) ≡ length (now lo)) ⌝ }
-    ensures { λ x. ⌜ (x leaving after lo hi) ≡ nudgeTree (treeOf nodes k) (before lo hi) ⌝ }
+    ensures { λ x. ⌜ (x leaving after lo hi) ≡ nudgeTree (theTree nodes k) (before lo hi) ⌝ }
 {
     match tree::node_in(nodes, k) {
         Node::One => PropResult::Stable,
@@ -377,61 +368,67 @@ fn nudge(nodes: &[u8], k: usize, lo: &mut [f64], hi: &mut [f64]) -> PropResult
     }
 }
 
-// An Eml of nodes a and b is to compare with zero as the relation says. What is computed of them forward is used backward.
-fn narrow_eml(
-    settings: Settings,
-    relation: Relation,
-    nodes: &[u8],
-    a: usize,
-    b: usize,
-    lo: &mut [f64],
-    hi: &mut [f64],
-) -> PropResult
-    requires { ⌜ Valid (now nodes) (a + 1) × Valid (now nodes) (b + 1) × (length (now hi) ≡ length (now lo)) ⌝ }
-    ensures { λ x. ⌜ (x leaving after lo hi) ≡ narrowAtom settings relation (Eml (treeOf nodes a) (treeOf nodes b)) (before lo hi) ⌝ }
+// What an Eml of children in l and r, which is to compare with zero as the relation says, asks of them. What is computed of them forward
+// is used backward.
+fn aim_eml(settings: Settings, relation: Relation, l: Interval, r: Interval) -> Demand
+    ensures { λ x. ⌜ x ≡ aimAt settings relation (Within l) (Within r) ⌝ }
 {
-    let Values::Within(l) = eval_interval(nodes, a, lo, hi) else {
-        return PropResult::Stable;
-    };
-    let Values::Within(r) = eval_interval(nodes, b, lo, hi) else {
-        return PropResult::Stable;
-    };
     if l.is_empty() | r.is_empty() {
-        return PropResult::Conflict;
+        return Demand::Answer(PropResult::Conflict);
     }
     if !r.has_ln() {
-        return PropResult::Stable;
+        return Demand::Answer(PropResult::Stable);
     }
     let exp_l = l.exp();
     let ln_r = r.ln();
-    let v = minus(exp_l, ln_r);
+    let v = exp_l.minus(ln_r);
     if v.is_empty() {
-        return PropResult::Conflict;
+        return Demand::Answer(PropResult::Conflict);
     }
     match target_of(settings, relation, v) {
-        Target::Stop(result) => result,
+        Target::Stop(result) => Demand::Answer(result),
         Target::Out(out) => {
             if out.is_empty() {
-                return PropResult::Conflict;
+                return Demand::Answer(PropResult::Conflict);
             }
-            let demand = ask_real(l, r, exp_l, ln_r, out);
-            backward_both(settings, nodes, a, b, demand, lo, hi)
+            ask_real(l, r, exp_l, ln_r, out)
         }
-        Target::Nudge => PropResult::Stable,
+        Target::Nudge => Demand::Answer(PropResult::Stable),
     }
+}
+
+fn aim_at(
+    nodes: &[u8],
+    a: usize,
+    b: usize,
+    settings: Settings,
+    relation: Relation,
+    lo: &[f64],
+    hi: &[f64],
+) -> Demand
+    requires { ⌜ Valid (now nodes) (a + 1) × Valid (now nodes) (b + 1) × (length (now hi) ≡ length (now lo)) ⌝ }
+    ensures { λ x. ⌜ x ≡ aimAt settings relation (evalInterval (before lo hi) (theTree nodes a)) (evalInterval (before lo hi) (theTree nodes b)) ⌝ }
+{
+    let Values::Within(l) = eval_interval(nodes, a, lo, hi) else {
+        return Demand::Answer(PropResult::Stable);
+    };
+    let Values::Within(r) = eval_interval(nodes, b, lo, hi) else {
+        return Demand::Answer(PropResult::Stable);
+    };
+    aim_eml(settings, relation, l, r)
 }
 
 // Node k's tree is to compare with zero as the relation says.
 fn narrow_other(
-    settings: Settings,
-    relation: Relation,
     nodes: &[u8],
     k: usize,
+    settings: Settings,
+    relation: Relation,
     lo: &mut [f64],
     hi: &mut [f64],
 ) -> PropResult
     requires { ⌜ Valid (now nodes) (k + 1) × (length (now hi) ≡ length (now lo)) ⌝ }
-    ensures { λ x. ⌜ (x leaving after lo hi) ≡ narrowAtom settings relation (treeOf nodes k) (before lo hi) ⌝ }
+    ensures { λ x. ⌜ (x leaving after lo hi) ≡ narrowAtom settings relation (theTree nodes k) (before lo hi) ⌝ }
 {
     let Values::Within(v) = eval_interval(nodes, k, lo, hi) else {
         return PropResult::Stable;
@@ -441,40 +438,31 @@ fn narrow_other(
     }
     match target_of(settings, relation, v) {
         Target::Stop(result) => result,
-        Target::Out(out) => backward_propagate(settings, nodes, k, out, lo, hi),
+        Target::Out(out) => backward_propagate(nodes, k, settings, out, lo, hi),
         Target::Nudge => nudge(nodes, k, lo, hi),
     }
 }
 
 // The same, with an Eml's children computed once.
 fn narrow_atom(
-    settings: Settings,
-    relation: Relation,
     nodes: &[u8],
     k: usize,
+    settings: Settings,
+    relation: Relation,
     lo: &mut [f64],
     hi: &mut [f64],
 ) -> PropResult
     requires { ⌜ Valid (now nodes) (k + 1) × (length (now hi) ≡ length (now lo)) ⌝ }
-    ensures { λ x. ⌜ (x leaving after lo hi) ≡ narrowAtom settings relation (treeOf nodes k) (before lo hi) ⌝ }
+    ensures { λ x. ⌜ (x leaving after lo hi) ≡ narrowAtom settings relation (theTree nodes k) (before lo hi) ⌝ }
 {
     let Node::Eml(a, b) = tree::node_in(nodes, k) else {
-        return narrow_other(settings, relation, nodes, k, lo, hi);
+        return narrow_other(nodes, k, settings, relation, lo, hi);
     };
-    narrow_eml(settings, relation, nodes, a, b, lo, hi)
+    let demand = aim_at(nodes, a, b, settings, relation, lo, hi);
+    backward_both(nodes, a, b, settings, demand, lo, hi)
 }
 
 // ---- one round
-
-pub fn is_conflict(result: PropResult) -> bool
-    ensures { λ r. ⌜ r ≡ isConflict result ⌝ }
-{
-    match result {
-        PropResult::Conflict => true,
-        PropResult::Changed => false,
-        PropResult::Stable => false,
-    }
-}
 
 // The hull of each pair of boxes.
 fn hull_boxes(a: Boxes, b: Boxes) -> Boxes
@@ -502,7 +490,7 @@ pub struct Survivors {
 // After one more branch, which answered `result` and left b.
 fn survive(before: Survivors, result: PropResult, b: Boxes) -> Survivors
     requires { ⌜ (before .hull .count ≤ 16) × (b .count ≡ before .hull .count) ⌝ }
-    ensures { λ r. ⌜ (r .hull .count ≡ before .hull .count) × (survivorsOf r ≡ surviveOf (survivorsOf before) result (boxesOf b)) ⌝ }
+    ensures { λ r. ⌜ (r .hull .count ≡ before .hull .count) × (survivorsOf r ≡ surviveOf (survivorsOf before) (result leaving boxesOf b)) ⌝ }
 {
     if is_conflict(result) {
         return before;
@@ -533,7 +521,7 @@ fn tighten(settings: Settings, hull: Interval, old: Interval) -> Tightened
             interval: old,
         };
     }
-    if moves(settings.slack, old, new) {
+    if old.moves(new, settings.slack) {
         return Tightened {
             result: PropResult::Changed,
             interval: new,
@@ -612,60 +600,71 @@ fn is_negated(mode: Mode) -> bool
     }
 }
 
+// What a round does with a record: narrow by an atom, by the constraint inside in another mode, by all or one of the last m, or nothing.
+pub enum Step {
+    Atom(Relation, usize),
+    Inside(Mode),
+    All(usize),
+    Any(usize),
+    Nothing,
+}
+
+fn several(any: bool, m: usize) -> Step
+    ensures { λ r. ⌜ r ≡ severalOf any m ⌝ }
+{
+    if any {
+        return Step::Any(m);
+    }
+    Step::All(m)
+}
+
+fn step_of(mode: Mode, given: Record) -> Step
+    ensures { λ r. ⌜ r ≡ stepOf mode given ⌝ }
+{
+    match given {
+        Record::Atom(relation, i) => Step::Atom(relation_in(mode, relation), i),
+        Record::Not => Step::Inside(under_not(mode)),
+        Record::And(m) => several(is_negated(mode), m),
+        Record::Or(m) => several(!is_negated(mode), m),
+        Record::ForAll(_, _, _) => Step::Nothing,
+        Record::Exists(_, _, _) => Step::Nothing,
+    }
+}
+
 // Constraint k. Under a Not the Rust narrows by the normal form of what is inside: the mode says so, and nothing is built.
 pub fn propagate_once(
-    settings: Settings,
-    mode: Mode,
     nodes: &[u8],
     constraints: &[u8],
     starts: &[usize; 256],
     k: usize,
+    settings: Settings,
+    mode: Mode,
     lo: &mut [f64],
     hi: &mut [f64],
 ) -> PropResult
     requires { ⌜ Ready (now nodes) (now constraints) (k + 1) (now starts) × (length (now hi) ≡ length (now lo)) × (length (now lo) ≤ 16) ⌝ }
     ensures { λ x. ⌜ (x leaving after lo hi) ≡ pass settings mode (the nodes constraints k) (before lo hi) ⌝ }
 {
-    match constraint::record_in(constraints, k) {
-        Record::Atom(relation, i) => {
-            narrow_atom(settings, relation_in(mode, relation), nodes, i, lo, hi)
+    match step_of(mode, constraint::record_in(constraints, k)) {
+        Step::Atom(relation, i) => narrow_atom(nodes, i, settings, relation, lo, hi),
+        Step::Inside(inner) => {
+            propagate_once(nodes, constraints, starts, k - 1, settings, inner, lo, hi)
         }
-        Record::Not => propagate_once(
-            settings,
-            under_not(mode),
-            nodes,
-            constraints,
-            starts,
-            k - 1,
-            lo,
-            hi,
-        ),
-        Record::And(m) => {
-            if is_negated(mode) {
-                return narrow_any(settings, mode, nodes, constraints, starts, m, k, lo, hi);
-            }
-            narrow_all(settings, mode, nodes, constraints, starts, m, k, lo, hi)
-        }
-        Record::Or(m) => {
-            if is_negated(mode) {
-                return narrow_all(settings, mode, nodes, constraints, starts, m, k, lo, hi);
-            }
-            narrow_any(settings, mode, nodes, constraints, starts, m, k, lo, hi)
-        }
-        Record::ForAll(_, _, _) => PropResult::Stable,
-        Record::Exists(_, _, _) => PropResult::Stable,
+        Step::All(m) => narrow_all(nodes, constraints, starts, m, k, settings, mode, lo, hi),
+        Step::Any(m) => narrow_any(nodes, constraints, starts, m, k, settings, mode, lo, hi),
+        Step::Nothing => PropResult::Stable,
     }
 }
 
 // The last m constraints that are finished before record n, oldest first, up to a Conflict.
 fn narrow_all(
-    settings: Settings,
-    mode: Mode,
     nodes: &[u8],
     constraints: &[u8],
     starts: &[usize; 256],
     m: usize,
     n: usize,
+    settings: Settings,
+    mode: Mode,
     lo: &mut [f64],
     hi: &mut [f64],
 ) -> PropResult
@@ -677,45 +676,45 @@ fn narrow_all(
     }
     let last = n - 1;
     let s = starts[last];
-    let before = narrow_all(settings, mode, nodes, constraints, starts, m - 1, s, lo, hi);
+    let before = narrow_all(nodes, constraints, starts, m - 1, s, settings, mode, lo, hi);
     if is_conflict(before) {
         return before;
     }
     worse(
         before,
-        propagate_once(settings, mode, nodes, constraints, starts, last, lo, hi),
+        propagate_once(nodes, constraints, starts, last, settings, mode, lo, hi),
     )
 }
 
 // One of them is to hold: each narrows a copy, and the boxes go to the hull of the survivors.
 fn narrow_any(
-    settings: Settings,
-    mode: Mode,
     nodes: &[u8],
     constraints: &[u8],
     starts: &[usize; 256],
     m: usize,
     n: usize,
+    settings: Settings,
+    mode: Mode,
     lo: &mut [f64],
     hi: &mut [f64],
 ) -> PropResult
     requires { ⌜ Taken (now nodes) (now constraints) m n (now starts) × (length (now hi) ≡ length (now lo)) × (length (now lo) ≤ 16) ⌝ }
-    ensures { λ x. ⌜ (x leaving after lo hi) ≡ passOne settings mode (those nodes constraints m n) (before lo hi) ⌝ }
+    ensures { λ x. ⌜ (x leaving after lo hi) ≡ adoptSurvivors settings (passAny settings mode (those nodes constraints m n) (before lo hi) none) (before lo hi) ⌝ }
 {
     let boxes = Boxes::new(lo, hi, lo.len());
-    let s = survivors_of(settings, mode, nodes, constraints, starts, m, n, boxes);
+    let s = survivors_of(nodes, constraints, starts, m, n, settings, mode, boxes);
     adopt_survivors(settings, s, lo, hi)
 }
 
 // The survivors among them, each narrowed from the same boxes.
 fn survivors_of(
-    settings: Settings,
-    mode: Mode,
     nodes: &[u8],
     constraints: &[u8],
     starts: &[usize; 256],
     m: usize,
     n: usize,
+    settings: Settings,
+    mode: Mode,
     boxes: Boxes,
 ) -> Survivors
     requires { ⌜ Taken (now nodes) (now constraints) m n (now starts) × (boxes .count ≤ 16) ⌝ }
@@ -729,14 +728,14 @@ fn survivors_of(
     }
     let last = n - 1;
     let s = starts[last];
-    let before = survivors_of(settings, mode, nodes, constraints, starts, m - 1, s, boxes);
+    let before = survivors_of(nodes, constraints, starts, m - 1, s, settings, mode, boxes);
     with_branch(
-        settings,
-        mode,
         nodes,
         constraints,
         starts,
         last,
+        settings,
+        mode,
         boxes,
         before,
     )
@@ -744,70 +743,71 @@ fn survivors_of(
 
 // Those so far, with constraint k if it survives in the boxes.
 fn with_branch(
-    settings: Settings,
-    mode: Mode,
     nodes: &[u8],
     constraints: &[u8],
     starts: &[usize; 256],
     k: usize,
+    settings: Settings,
+    mode: Mode,
     boxes: Boxes,
     before: Survivors,
 ) -> Survivors
     requires { ⌜ Ready (now nodes) (now constraints) (k + 1) (now starts) × (boxes .count ≤ 16) × (before .hull .count ≡ boxes .count) ⌝ }
-    ensures { λ r. ⌜ (r .hull .count ≡ boxes .count) × (survivorsOf r ≡ passInto settings mode (the nodes constraints k) (boxesOf boxes) (survivorsOf before)) ⌝ }
+    ensures { λ r. ⌜ (r .hull .count ≡ boxes .count) × (survivorsOf r ≡ surviveOf (survivorsOf before) (pass settings mode (the nodes constraints k) (boxesOf boxes))) ⌝ }
 {
     let count = boxes.count;
     let mut lo = boxes.lo;
     let mut hi = boxes.hi;
     let result = propagate_once(
-        settings,
-        mode,
         nodes,
         constraints,
         starts,
         k,
+        settings,
+        mode,
         &mut lo[..count],
         &mut hi[..count],
     );
     survive(before, result, Boxes { lo, hi, count })
 }
 
+// ---- rounds
+
 // Constraint k in that mode, in rounds until nothing changes or a Conflict, at most as many as the settings say.
 pub fn propagate_in_mode(
-    settings: Settings,
-    mode: Mode,
     nodes: &[u8],
     constraints: &[u8],
     starts: &[usize; 256],
     k: usize,
+    settings: Settings,
+    mode: Mode,
     lo: &mut [f64],
     hi: &mut [f64],
 ) -> PropResult
     requires { ⌜ Ready (now nodes) (now constraints) (k + 1) (now starts) × (length (now hi) ≡ length (now lo)) × (length (now lo) ≤ 16) ⌝ }
     ensures { λ x. ⌜ (x leaving after lo hi) ≡ propagateOf settings (inMode mode (the nodes constraints k)) (before lo hi) ⌝ }
 {
-    let most = settings.rounds;
     let mut done = PropResult::Stable;
-    let mut i: usize = 0;
-    while i < most {
-        let result = propagate_once(settings, mode, nodes, constraints, starts, k, lo, hi);
-        match result {
-            PropResult::Conflict => return PropResult::Conflict,
-            PropResult::Stable => return done,
-            PropResult::Changed => done = PropResult::Changed,
+    let mut left = settings.rounds;
+    while left > 0 {
+        let result = propagate_once(nodes, constraints, starts, k, settings, mode, lo, hi);
+        done = worse(done, result);
+        if is_changed(result) {
+            left -= 1;
+        } else {
+            return done;
         }
-        i += 1;
     }
     done
 }
 
 // Constraint k as it is written.
 pub fn propagate(
-    settings: Settings,
     nodes: &[u8],
     constraints: &[u8],
     starts: &[usize; 256],
     k: usize,
+    settings: Settings,
     lo: &mut [f64],
     hi: &mut [f64],
 ) -> PropResult
@@ -815,15 +815,53 @@ pub fn propagate(
     ensures { λ x. ⌜ (x leaving after lo hi) ≡ propagateOf settings (the nodes constraints k) (before lo hi) ⌝ }
 {
     propagate_in_mode(
-        settings,
-        Mode::Written,
         nodes,
         constraints,
         starts,
         k,
+        settings,
+        Mode::Written,
         lo,
         hi,
     )
+}
+
+// Boxes by value, and what narrowing them answered.
+pub struct NarrowedBoxes {
+    pub result: PropResult,
+    pub boxes: Boxes,
+}
+
+// `propagate_in_mode` on boxes by value.
+pub fn narrow_boxes(
+    nodes: &[u8],
+    constraints: &[u8],
+    starts: &[usize; 256],
+    k: usize,
+    settings: Settings,
+    mode: Mode,
+    boxes: Boxes,
+) -> NarrowedBoxes
+    requires { ⌜ Ready (now nodes) (now constraints) (k + 1) (now starts) × (boxes .count ≤ 16) ⌝ }
+    ensures { λ r. ⌜ (r .boxes .count ≡ boxes .count) × ((r .result leaving boxesOf (r .boxes)) ≡ propagateOf settings (inMode mode (the nodes constraints k)) (boxesOf boxes)) ⌝ }
+{
+    let count = boxes.count;
+    let mut lo = boxes.lo;
+    let mut hi = boxes.hi;
+    let result = propagate_in_mode(
+        nodes,
+        constraints,
+        starts,
+        k,
+        settings,
+        mode,
+        &mut lo[..count],
+        &mut hi[..count],
+    );
+    NarrowedBoxes {
+        result,
+        boxes: Boxes { lo, hi, count },
+    }
 }
 
 // ---- the call on records and boxes that are given
@@ -840,7 +878,7 @@ pub fn propagate_given(
     lo: &mut [f64],
     hi: &mut [f64],
 ) -> Propagated
-    ensures { λ r. ⌜ (r leaving now (lo .exit) and now (hi .exit)) ≡ propagateGiven (now (nodes .entry)) (now (constraints .entry)) (now (lo .entry)) (now (hi .entry)) ⌝ }
+    ensures { λ r. ⌜ (r leaving (final lo, final hi)) ≡ propagateGiven usual (old nodes) (old constraints) (old lo) (old hi) ⌝ }
 {
     let mut starts = [0usize; 256];
     let r = file::test_given(nodes, constraints, &mut starts);
@@ -849,7 +887,8 @@ pub fn propagate_given(
     }
     if interval::are_boxes(lo, hi) {
         let last = constraints.len() / 24 - 1;
-        let x = propagate(settings::usual(), nodes, constraints, &starts, last, lo, hi);
+        let settings = settings::usual();
+        let x = propagate(nodes, constraints, &starts, last, settings, lo, hi);
         return Propagated::Answered(x);
     }
     Propagated::Refused(9)

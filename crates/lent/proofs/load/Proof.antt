@@ -1,6 +1,12 @@
 -- `lent::load` meets its contract: a walk of its MIR, by hand. Before turn i the boxes hold the first i intervals. A turn looks into the slice,
 -- copies element i out and calls `put`. Assumes nothing.
-use Rattle.lent.proofs.Walk.{_≡_, refl, sym, ap, _∙_, ℕ, suc, _<_, _^_, _+_, arith, le-antisymm, lt-of-le-of-lt, add-one, zero-le, List, [], _∷_, length, getD, T, ltb, ltb→lt, nltb→le, lit<, URA, fullShare, Ty, named, w64, tyPtr, Val, vint, vptr, SProp, ent, emp, via, fst∗, Lft, GName, Share, ftrue, fat, froom, fdies, flft, fres, fshr-bor, Memory, Routine, Heap, Out, Env, afterSeq, afterBlock, afterTurn, Wp, atReturn, WpFn, Tables, Atoms, sem, Fun, givenOf, tables, tablesOf, Sq, runs, anyQ, atRet, Given, Item, ‵, _⊛_, ⋆, _$_, _∵_, !, qed, by, move, keep, drop, split, join, rewrite, fsplit, fjoin, suffices, frame, done, whole, sub, look-in, look, look-raw, init, store, forget, stop, hop, fld, from, load, lit, of-opd, bin, assigns, assigns-last, and-then, no-more, land, first, blocks, exec, Below, again, loops, returns, enter, alloc1, alloc0, params1, pass1, pass0, free1, free0, fmOf, WpFn-mono, yes, owns, pureI, Is, shows, uint-makes, RefT, sliceVal, ShrSlice, heres, codedHoleys, Room, at-slice, slice-vals, shr-slice-tells, shares, arr-parts, place-is, elem-out, elem-back, looks-slice, shuts-slice, plain, usize, owned, nothing, Vals, onEntry, Triple, Contract, Meets, tripleOf, entered, cited, says, Stays, stay-none-slice, walkOf, goes-none-slice, Walks, ends-at, walked, walk-meets}
+use Rattle.lent.proofs.Walk.{_≡_, refl, sym, ap, _∙_, ℕ, suc, _<_, _^_, _+_, arith, le-antisymm, lt-of-le-of-lt, add-one, zero-le, List, [], _∷_, length, getD, T, ltb, ltb→lt, nltb→le, lit<, URA, fullShare, Ty, named}
+use Rattle.lent.proofs.Walk.{w64, tyPtr, Val, vint, vptr, SProp, ent, emp, via, fst∗, Lft, GName, Share, ftrue, fat, froom, fdies, flft, fres, fshr-bor, Memory, Routine, Heap, Out, Env, afterSeq, afterBlock, afterTurn}
+use Rattle.lent.proofs.Walk.{Wp, atReturn, WpFn, Tables, Atoms, sem, Fun, givenOf, tables, tablesOf, Sq, runs, anyQ, atRet, Given, Item, ‵, _⊛_, ⋆, _$_, _∵_, !, qed, by, move, keep, drop, split, join, rewrite, fsplit}
+use Rattle.lent.proofs.Walk.{fjoin, suffices, frame, done, whole, sub, look-in, look, look-raw, init, store, forget, stop, hop, fld, from, load, lit, of-opd, bin, assigns, assigns-last, and-then, no-more, land, first}
+use Rattle.lent.proofs.Walk.{blocks, exec, Below, again, loops, returns, enter, alloc1, alloc0, params1, pass1, pass0, free1, free0, fmOf, WpFn-mono, yes, owns, pureI, Is, shows, uint-makes, RefT, sliceVal, ShrSlice}
+use Rattle.lent.proofs.Walk.{heres, codedHoleys, Room, at-slice, slice-vals, shr-slice-tells, shares, arr-parts, place-is, elem-out, elem-back, looks-slice, shuts-slice, plain, usize, owned, nothing, Vals, onEntry}
+use Rattle.lent.proofs.Walk.{Triple, Contract, Meets, tripleOf, entered, cited, says, Stays, stay-none-slice, walkOf, goes-none-slice, Walks, ends-at, walked, walk-meets}
 use Rattle.lent.proofs.Rules.{tyAt, Count, Closer, closer-wf, next, next-closer, while-test, Fn, calls-val}
 use Rattle.lent.proofs.Rows.{interval, ivals, itells, imakes, icopy, ityped, before-fits, boxes, bvals, bval, btells, bmakes, btyped}
 use Rattle.interval.specs.declared.Interval.{Interval}
@@ -103,7 +109,8 @@ module _ {M : Type 1} (𝓤 : URA M) (H : Heap 𝓤) (A : Atoms 𝓤) (W : Given
         (λ over. exec ! (𝓣 .C) (𝓣 .Λ) En code.Mir.t-5 (atRet En Post) $
         assigns ! (of-opd ! (load ! (from ! (stop !)) (look ! 15 refl))) (from ! (stop !)) (init ! 19 refl (btyped 𝓤 H A W (loadedTo ys i) (j .known))) $
         returns ! (look ! 19 refl) $ forget ! 7 refl $ forget ! 9 refl $ forget ! 11 refl $ forget ! 13 refl $ forget ! 15 refl $ forget ! 17 refl $ forget ! 19 refl $
-        move ! (19 ∷ 20 ∷ []) $ free1 ! $ move ! (17 ∷ 18 ∷ []) $ free1 ! $ move ! (15 ∷ 16 ∷ []) $ free1 ! $ move ! (13 ∷ 14 ∷ []) $ free1 ! $ move ! (11 ∷ 12 ∷ []) $ free1 ! $ move ! (9 ∷ 10 ∷ []) $ free1 ! $ move ! (7 ∷ 8 ∷ []) $ free1 ! $ move ! (5 ∷ 6 ∷ []) $ free1 ! $ move ! (3 ∷ 4 ∷ []) $ free1 ! $ free0 ! $
+        move ! (19 ∷ 20 ∷ []) $ free1 ! $ move ! (17 ∷ 18 ∷ []) $ free1 ! $ move ! (15 ∷ 16 ∷ []) $ free1 ! $ move ! (13 ∷ 14 ∷ []) $ free1 ! $ move ! (11 ∷ 12 ∷ []) $ free1 ! $
+        move ! (9 ∷ 10 ∷ []) $ free1 ! $ move ! (7 ∷ 8 ∷ []) $ free1 ! $ move ! (5 ∷ 6 ∷ []) $ free1 ! $ move ! (3 ∷ 4 ∷ []) $ free1 ! $ free0 ! $
         by ! (exits (loadedTo ys i) (ap (loadedTo ys) (le-antisymm (j .within) (nltb→le i n over)) ∙ loaded ys) (j .known)))
       where
         i : ℕ
@@ -119,7 +126,8 @@ module _ {M : Type 1} (𝓤 : URA M) (H : Heap 𝓤) (A : Atoms 𝓤) (W : Given
         more less = let l : i < n = lt less in omega (arith, gn .0)
 
         args : Is interval elem (ivals elem) → ent 𝓤 (emp 𝓤) (sem 𝓤 H A (owns (boxes ∷ usize ∷ interval ∷ []) (loadedTo ys i, (i, (elem, tt))) (bvals (loadedTo ys i), (vint w64 i ∷ [], (ivals elem, tt)))))
-        args g = qed W [] ∵ nothing ! $ owned ! interval (Is interval) (imakes 𝓤 H A) elem _ g $ fjoin ! $ owned ! usize (Is usize) (uint-makes 𝓤 H A W w64) i _ (refl, lt-of-le-of-lt (j .within) (gn .0)) $ fjoin ! $ owned ! boxes (Is boxes) (bmakes 𝓤 H A) (loadedTo ys i) _ (j .known) $ fjoin ! $ done !
+        args g = qed W [] ∵ nothing ! $ owned ! interval (Is interval) (imakes 𝓤 H A) elem _ g $ fjoin ! $
+            owned ! usize (Is usize) (uint-makes 𝓤 H A W w64) i _ (refl, lt-of-le-of-lt (j .within) (gn .0)) $ fjoin ! $ owned ! boxes (Is boxes) (bmakes 𝓤 H A) (loadedTo ys i) _ (j .known) $ fjoin ! $ done !
 
   walk : (𝓣 : Tables 𝓤 H) → Triple 𝓤 (𝓣 .C #lent·blank) (Blank 𝓤 H A) → Triple 𝓤 (𝓣 .C #lent·put) (Put 𝓤 H A) → ent 𝓤 (onEntry 𝓤 H A f.signature (κ, tt) (q, tt) (x, tt) at) (WpFn 𝓤 H (𝓣 .C) (𝓣 .Λ) code.function (s ∷ []) Post)
   walk 𝓣 known-blank known-put =
@@ -136,7 +144,8 @@ module _ {M : Type 1} (𝓤 : URA M) (H : Heap 𝓤) (A : Atoms 𝓤) (W : Given
       keep ! (3 ∷ 0 ∷ 2 ∷ 5 ∷ 6 ∷ 7 ∷ 8 ∷ 9 ∷ 10 ∷ 11 ∷ 12 ∷ 13 ∷ 14 ∷ 15 ∷ 16 ∷ 17 ∷ 18 ∷ 19 ∷ 20 ∷ 21 ∷ 22 ∷ []) $ first ! $ blocks ! $
       loops ! 𝓣 (Closer n Known) (closer-wf n Known) (At 𝓣 known-put l₀ l₁ l₂ l₃ l₄ l₅ l₆ l₇ l₈) (turns 𝓣 known-put l₀ l₁ l₂ l₃ l₄ l₅ l₆ l₇ l₈) (record { at = 0; within = zero-le; known = is })))))))))))
 
-module _ {M : Type 1} (𝓤 : URA M) (H : Heap 𝓤) (A : Atoms 𝓤) (W : Given 𝓤 H A) (mem : Memory → SProp 𝓤) (run : Routine → Fun 𝓤) (𝓣 : Tables 𝓤 H) (known-blank : Triple 𝓤 (𝓣 .C #lent·blank) (Blank 𝓤 H A)) (known-put : Triple 𝓤 (𝓣 .C #lent·put) (Put 𝓤 H A)) where
+module _ {M : Type 1} (𝓤 : URA M) (H : Heap 𝓤) (A : Atoms 𝓤) (W : Given 𝓤 H A) (mem : Memory → SProp 𝓤) (run : Routine → Fun 𝓤) (𝓣 : Tables 𝓤 H)
+    (known-blank : Triple 𝓤 (𝓣 .C #lent·blank) (Blank 𝓤 H A)) (known-put : Triple 𝓤 (𝓣 .C #lent·put) (Put 𝓤 H A)) where
   load-walks : Walks 𝓤 H A f.ended stayed (WpFn 𝓤 H (𝓣 .C) (𝓣 .Λ) code.function) (f.clauses 𝓤 H A mem run)
   load-walks = walked 𝓤 H A f.ended stayed (f.clauses 𝓤 H A mem run) (WpFn 𝓤 H (𝓣 .C) (𝓣 .Λ) code.function) (λ κs. (slice-vals, tt)) (λ κs. (shr-slice-tells (named 0) (κs .0) interval, tt))
       (λ κs qs bounds a g are. via 𝓤 _ (fst∗ 𝓤 _ (emp 𝓤))

@@ -1,62 +1,78 @@
 -- `lent::narrow_boxes` meets its contract. Assumes nothing.
-use mathlib.Core.Path.{_≡_, sym, _∙_}
+use mathlib.Core.Path.{_≡_, refl, sym, ap, _∙_}
 use native.Mathlib.Omega.{arith}
-use lib.Ieee.{Float}
-use lib.ListN.{length}
-use lib.Seq.{length-take-le}
-use Rattle.lent.proofs.Copying.{over-sixteen, in-places}
 use borrow.Author.Needs.{needs, length-unmapped}
+use lib.Ieee.{Float}
+use borrow.Author.Tests.{leb-true}
+use lib.Dec.{leb}
+use lib.ListN.{length}
+use Rattle.interval.specs.Boxes.{boxesOf, allSound}
+use Rattle.record.specs.RefusalLaws.{both}
+use Rattle.file.specs.FileLaws.{some-given, last-given}
+use Rattle.narrow.specs.Given.{answered}
+use Rattle.narrow.specs.GivenLaws.{records-refused, boxes-refused, boxes-taken}
 use Rattle.lent.proofs.narrow_boxes.Statement.{statement}
 use Rattle.lent.proofs.narrow_boxes.Tie as tie
-use Rattle.lent.proofs.narrow_boxes.Reads as reads
-use Rattle.lent.proofs.narrow_boxes.Lts as lts
-use Rattle.lent.proofs.too_many.Reads as too-many-reads
-use Rattle.narrow.proofs.propagate_given.Reads as propagate-given-reads
 
 -- each array of ends has 16 places
-lows : (s : lts.Start (too-many-reads.Asked, too-many-reads.Learnt, propagate-given-reads.Asked, propagate-given-reads.Learnt) reads.Pre reads.Post) → length (s .args .boxes .lo) ≡ 16
-lows s = length-unmapped Float (s .args .boxes .lo) 16 (s .good .1 .1 .0 .1 .1 .0 .1 .0 .1)
+lows : (s : tie.Start) → length (s .args .boxes .lo) ≡ 16
+lows s = search needs
 
-highs : (s : lts.Start (too-many-reads.Asked, too-many-reads.Learnt, propagate-given-reads.Asked, propagate-given-reads.Learnt) reads.Pre reads.Post) → length (s .args .boxes .hi) ≡ 16
-highs s = length-unmapped Float (s .args .boxes .hi) 16 (s .good .1 .1 .0 .1 .1 .1 .0 .1 .0 .1)
-
-too-many-requires : tie.Need-too-many-requires
-too-many-requires c κs = search needs
+highs : (s : tie.Start) → length (s .args .boxes .hi) ≡ 16
+highs s = search needs
 
 returns : tie.Need-returns
-returns c = over-sixteen _ _ _ _ (c .before .if1 .taken) (c .too-many .ensures)
+returns c =
+    let p₁ = c .before in
+    let s = p₁ .before .before .before .before in
+    record { count = refl; lows = lows s; highs = highs s; whole = records-refused _ _ _ _ _ _ (p₁ .test-given .ensures .0) (c .if1 .taken) }
 
-array-borrow-prefix-lo : tie.Need-array-borrow-prefix-lo
-array-borrow-prefix-lo c = omega (arith, c .before .before .if1 .left, lows (c .before .before .before .before .before))
+sub-last : tie.Need-sub-last
+sub-last c = omega (arith, some-given _ _ (sym (c .before .before .before .test-given .ensures .0) ∙ c .before .before .if1 .left))
 
-slice-aggregate-propagate-given : tie.Need-slice-aggregate-propagate-given
-slice-aggregate-propagate-given c = sym (length-take-le _ _ (omega (arith, c .before .before .before .if1 .left, lows (c .before .before .before .before .before .before))))
-
-array-borrow-prefix-hi : tie.Need-array-borrow-prefix-hi
-array-borrow-prefix-hi c = omega (arith, c .before .before .before .if1 .left, highs (c .before .before .before .before .before .before))
-
-slice-aggregate-propagate-given-2 : tie.Need-slice-aggregate-propagate-given-2
-slice-aggregate-propagate-given-2 c = sym (length-take-le _ _ (omega (arith, c .before .before .before .before .if1 .left, highs (c .before .before .before .before .before .before .before))))
-
-propagate-given-requires : tie.Need-propagate-given-requires
-propagate-given-requires c κs = search needs
+narrow-boxes-requires : tie.Need-narrow-boxes-requires
+narrow-boxes-requires c κs =
+    let p₁ = c .before .before in
+    let p₂ = p₁ .before in
+    let p₃ = p₂ .before in
+    let p₄ = p₃ .before in
+    let s = p₄ .before .before .before .before in
+    let b = s .args .boxes in
+    (last-given _ _ (sym (p₄ .test-given .ensures .0) ∙ p₃ .if1 .left) _ _ refl (p₄ .test-given .ensures .1), leb-true (b .count) 16 (both (leb (b .count) 16) (allSound (boxesOf b)) (sym (p₂ .are-sound .ensures) ∙ p₁ .if2 .taken) .0))
 
 returns-2 : tie.Need-returns-2
 returns-2 c =
-    let p = c .before .before .propagate-given in
-    let few = c .before .before .before .before .before .before .before .if1 .left in
-    let s = c .before .before .before .before .before .before .before .before .before .before in
-    in-places _ _ _ _ _ _ few (lows s) (highs s) (p .kept .1 .1 .0 ∙ length-take-le _ _ (omega (arith, few, lows s))) (p .kept .1 .1 .1 .0 ∙ length-take-le _ _ (omega (arith, few, highs s))) (p .ensures)
+    let p₁ = c .before in
+    let p₂ = p₁ .before .before in
+    let p₃ = p₂ .before in
+    let p₄ = p₃ .before in
+    let p₅ = p₄ .before in
+    let p₆ = p₅ .before in
+    let ok = p₁ .narrow-boxes .ok .1 .1 .1 .0 .1 .1 in
+    record {
+      count = p₁ .narrow-boxes .ensures .0;
+      lows = length-unmapped Float (p₁ .narrow-boxes .result .boxes .lo) 16 (ok .0 .1 .0 .1);
+      highs = length-unmapped Float (p₁ .narrow-boxes .result .boxes .hi) 16 (ok .1 .0 .1 .0 .1);
+      whole = boxes-taken _ _ _ _ (sym (p₆ .test-given .ensures .0) ∙ p₅ .if1 .left) (sym (p₄ .are-sound .ensures) ∙ p₃ .if2 .taken) (ap (answered (λ x. x)) (rw (p₂ .usual .ensures) at (p₁ .narrow-boxes .ensures .1)));
+    }
+
+returns-3 : tie.Need-returns-3
+returns-3 c =
+    let p₁ = c .before in
+    let p₂ = p₁ .before in
+    let p₃ = p₂ .before in
+    let s = p₃ .before .before .before .before in
+    record { count = refl; lows = lows s; highs = highs s; whole = boxes-refused _ _ _ _ (sym (p₃ .test-given .ensures .0) ∙ p₂ .if1 .left) (sym (p₁ .are-sound .ensures) ∙ c .if2 .left) }
 
 pub narrow-boxes-spec : {M : Type 1} → statement M
 narrow-boxes-spec =
     tie.close
     (tie.spec
-    too-many-requires
+    (λ c κs. search needs)
     returns
-    array-borrow-prefix-lo
-    slice-aggregate-propagate-given
-    array-borrow-prefix-hi
-    slice-aggregate-propagate-given-2
-    propagate-given-requires
-    returns-2)
+    (λ c κs. search needs)
+    sub-last
+    (λ c κs. search needs)
+    narrow-boxes-requires
+    returns-2
+    returns-3)

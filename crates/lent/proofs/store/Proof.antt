@@ -1,6 +1,12 @@
 -- `lent::store` meets its contract: a walk of its MIR, by hand. Before turn i the first i intervals are written. A turn opens the borrow,
 -- copies element i out, calls `get`, writes what it gives into the element and closes the borrow. Assumes nothing.
-use Rattle.lent.proofs.Walk.{_≡_, refl, sym, ap, subst, ℕ, _<_, _^_, _+_, arith, lt-of-le-of-lt, add-one, zero-le, List, [], _∷_, length, getD, set, take, length-set, T, ltb, ltb→lt, nltb→le, lit<, URA, fullShare, Ty, named, w64, Val, vunit, vint, vptr, SProp, ent, emp, via, fst∗, Lft, GName, Share, ftrue, fat, froom, fdies, flft, fobs, fbor, Memory, Routine, Heap, Out, Env, afterSeq, afterBlock, afterTurn, Wp, atReturn, WpFn, Tables, Atoms, sem, Fun, givenOf, tables, tablesOf, Sq, runs, anyQ, atRet, Given, Item, ‵, _⊛_, ⋆, _$_, _∵_, !, qed, by, move, keep, drop, split, join, rewrite, fsplit, fjoin, feqI, suffices, frame, done, whole, sub, look-in, look, look-raw, init, store, store-raw, forget, stop, hop, fld, from, load, lit, unit-lit, of-opd, bin, assigns, assigns-last, and-then, no-more, land, first, blocks, exec, Below, again, loops, returns, enter, alloc1, alloc0, params1, pass1, pass0, free1, free0, fmOf, WpFn-mono, yes, owns, pureI, Is, shows, uint-makes, RefT, sliceVal, MutSlice, heres, codedHoleys, Room, at-slice, slice-vals, mut-slice-tells, Held, place-is, elem-out, elem-put, opens-slice, closes-slice, plain, usize, owned, nothing, Vals, onEntry, Triple, Contract, Meets, tripleOf, entered, cited, says, Stays, stay-none, stay-slice, walkOf, goes-none, goes-slice, Walks, ends-at, walked, walk-meets}
+use Rattle.lent.proofs.Walk.{_≡_, refl, sym, ap, subst, ℕ, _<_, _^_, _+_, arith, lt-of-le-of-lt, add-one, zero-le, List, [], _∷_, length, getD, set, take, length-set, T, ltb, ltb→lt, nltb→le, lit<, URA, fullShare, Ty}
+use Rattle.lent.proofs.Walk.{named, w64, Val, vunit, vint, vptr, SProp, ent, emp, via, fst∗, Lft, GName, Share, ftrue, fat, froom, fdies, flft, fobs, fbor, Memory, Routine, Heap, Out, Env, afterSeq, afterBlock}
+use Rattle.lent.proofs.Walk.{afterTurn, Wp, atReturn, WpFn, Tables, Atoms, sem, Fun, givenOf, tables, tablesOf, Sq, runs, anyQ, atRet, Given, Item, ‵, _⊛_, ⋆, _$_, _∵_, !, qed, by, move, keep, drop, split, join, rewrite}
+use Rattle.lent.proofs.Walk.{fsplit, fjoin, feqI, suffices, frame, done, whole, sub, look-in, look, look-raw, init, store, store-raw, forget, stop, hop, fld, from, load, lit, unit-lit, of-opd, bin, assigns, assigns-last}
+use Rattle.lent.proofs.Walk.{and-then, no-more, land, first, blocks, exec, Below, again, loops, returns, enter, alloc1, alloc0, params1, pass1, pass0, free1, free0, fmOf, WpFn-mono, yes, owns, pureI, Is, shows}
+use Rattle.lent.proofs.Walk.{uint-makes, RefT, sliceVal, MutSlice, heres, codedHoleys, Room, at-slice, slice-vals, mut-slice-tells, Held, place-is, elem-out, elem-put, opens-slice, closes-slice, plain, usize, owned}
+use Rattle.lent.proofs.Walk.{nothing, Vals, onEntry, Triple, Contract, Meets, tripleOf, entered, cited, says, Stays, stay-none, stay-slice, walkOf, goes-none, goes-slice, Walks, ends-at, walked, walk-meets}
 use Rattle.lent.proofs.Rules.{tyAt, Count, Closer, closer-wf, next, next-closer, while-test, Fn, calls-val}
 use Rattle.lent.proofs.Rows.{interval, ivals, itells, imakes, ityped, before-fits, boxes, bvals, bval, btells, bmakes, btyped}
 use Rattle.interval.specs.declared.Interval.{Interval}
@@ -27,7 +33,8 @@ Get = Fn (get.signature .params) (get.ended .kept) interval (λ a. getD (interva
 abbrev τ : ℕ → Ty
 τ k = tyAt (code.function .locals) k
 
-module _ {M : Type 1} (𝓤 : URA M) (H : Heap 𝓤) (A : Atoms 𝓤) (W : Given 𝓤 H A) (mem : Memory → SProp 𝓤) (run : Routine → Fun 𝓤) (κ : Lft) (q : Share) (b o : ℕ) (γ : GName) (ys : List Interval) (s : Boxes) (gn : Room interval (length ys)) (gs : Is boxes s (bvals s)) where
+module _ {M : Type 1} (𝓤 : URA M) (H : Heap 𝓤) (A : Atoms 𝓤) (W : Given 𝓤 H A) (mem : Memory → SProp 𝓤) (run : Routine → Fun 𝓤) (κ : Lft) (q : Share) (b o : ℕ) (γ : GName)
+    (ys : List Interval) (s : Boxes) (gn : Room interval (length ys)) (gs : Is boxes s (bvals s)) where
   abbrev n : ℕ
   n = length ys
 
@@ -103,7 +110,9 @@ module _ {M : Type 1} (𝓤 : URA M) (H : Heap 𝓤) (A : Atoms 𝓤) (W : Given
         (λ past. exec ! (𝓣 .C) (𝓣 .Λ) En code.Mir.t-3 (atRet En Post) $
         assigns ! (of-opd ! (unit-lit !)) (from ! (stop !)) (init ! 23 refl (tt, tt)) $
         returns ! (look ! 23 refl) $ forget ! 13 refl $ forget ! 15 refl $ forget ! 17 refl $ forget ! 19 refl $ forget ! 21 refl $ forget ! 23 refl $
-        move ! (23 ∷ 24 ∷ []) $ free1 ! $ move ! (21 ∷ 22 ∷ []) $ free1 ! $ move ! (19 ∷ 20 ∷ []) $ free1 ! $ move ! (17 ∷ 18 ∷ []) $ free1 ! $ move ! (15 ∷ 16 ∷ []) $ free1 ! $ move ! (13 ∷ 14 ∷ []) $ free1 ! $ move ! (11 ∷ 12 ∷ []) $ free1 ! $ move ! (9 ∷ 10 ∷ []) $ free1 ! $ move ! (7 ∷ 8 ∷ []) $ free1 ! $ move ! (5 ∷ 6 ∷ []) $ free1 ! $ move ! (3 ∷ 4 ∷ []) $ free1 ! $ free0 ! $
+        move ! (23 ∷ 24 ∷ []) $ free1 ! $ move ! (21 ∷ 22 ∷ []) $ free1 ! $ move ! (19 ∷ 20 ∷ []) $ free1 ! $ move ! (17 ∷ 18 ∷ []) $ free1 ! $ move ! (15 ∷ 16 ∷ []) $ free1 ! $
+        move ! (13 ∷ 14 ∷ []) $ free1 ! $ move ! (11 ∷ 12 ∷ []) $ free1 ! $ move ! (9 ∷ 10 ∷ []) $ free1 ! $ move ! (7 ∷ 8 ∷ []) $ free1 ! $ move ! (5 ∷ 6 ∷ []) $ free1 ! $
+        move ! (3 ∷ 4 ∷ []) $ free1 ! $ free0 ! $
         by ! (exits zs (over-all held ys i (nltb→le i n past)) (over-length (take i held) ys)))
       where
         i : ℕ
@@ -128,7 +137,8 @@ module _ {M : Type 1} (𝓤 : URA M) (H : Heap 𝓤) (A : Atoms 𝓤) (W : Given
         more less = let l : i < n = lt less in omega (arith, gn .0)
 
         args : Is interval old (ivals old) → ent 𝓤 (emp 𝓤) (sem 𝓤 H A (owns (boxes ∷ usize ∷ interval ∷ []) (s, (i, (old, tt))) (bvals s, (vint w64 i ∷ [], (ivals old, tt)))))
-        args g = qed W [] ∵ nothing ! $ owned ! interval (Is interval) (imakes 𝓤 H A) old _ g $ fjoin ! $ owned ! usize (Is usize) (uint-makes 𝓤 H A W w64) i _ (refl, lt-of-le-of-lt (j .within) (gn .0)) $ fjoin ! $ owned ! boxes (Is boxes) (bmakes 𝓤 H A) s _ gs $ fjoin ! $ done !
+        args g = qed W [] ∵ nothing ! $ owned ! interval (Is interval) (imakes 𝓤 H A) old _ g $ fjoin ! $
+            owned ! usize (Is usize) (uint-makes 𝓤 H A W w64) i _ (refl, lt-of-le-of-lt (j .within) (gn .0)) $ fjoin ! $ owned ! boxes (Is boxes) (bmakes 𝓤 H A) s _ gs $ fjoin ! $ done !
 
   walk : (𝓣 : Tables 𝓤 H) → Triple 𝓤 (𝓣 .C #lent·get) (Get 𝓤 H A) → ent 𝓤 (onEntry 𝓤 H A f.signature (κ, tt) (q, tt) (x ys, (s, tt)) at) (WpFn 𝓤 H (𝓣 .C) (𝓣 .Λ) code.function (sl ∷ bval s ∷ []) Post)
   walk 𝓣 known-get =

@@ -1,174 +1,138 @@
 -- `narrow::eval_interval` and `narrow::eval_eml` meet their contracts. Assumes nothing.
-use Prim.Native.Nat.{ℕ, suc, max, _*_, _<_}
-use borrow.Fn.Kinds.{In}
-use borrow.Fn.PlainCycle.{Measures, is, falls, and}
-use Rattle.narrow.proofs.eval_eml.Reads as eval-eml
-use Rattle.narrow.proofs.eval_eml.Kinds as eval-eml-kinds
-use Rattle.narrow.proofs.+eval_eml+eval_interval.Lts-eval_eml as eval-eml-lts
-use Rattle.narrow.proofs.eval_interval.Reads as eval-interval
-use Rattle.narrow.proofs.eval_interval.Kinds as eval-interval-kinds
-use Rattle.narrow.proofs.+eval_eml+eval_interval.Lts-eval_interval as eval-interval-lts
-use Rattle.interval.proofs.Interval.new.Reads as new-reads
-use Rattle.interval.proofs.box_at.Reads as box-at-reads
-use Rattle.narrow.proofs.eml_interval.Reads as eml-interval-reads
-use Rattle.tree.proofs.node_in.Reads as node-in-reads
-use Rattle.narrow.proofs.+eval_eml+eval_interval.{statement}
-use Rattle.narrow.proofs.+eval_eml+eval_interval.Tie.{close}
+use Prim.Native.Nat.{ℕ, suc, max, _*_}
 use mathlib.Core.Path.{refl, sym, _∙_}
 use native.Mathlib.Omega.{arith}
 use borrow.Author.Needs.{needs}
+use borrow.Fn.Kinds.{In, Out}
+use borrow.Fn.PlainCycle.{Measures}
 use Rattle.number.specs.Literals.{one-is}
-use Rattle.narrow.specs.Narrowing.{forward, evalInterval}
 use Rattle.tree.specs.NodeLaws.{tree-one, tree-const, tree-var, record-there, at-left, at-right, tree-is}
+use Rattle.tree.proofs.node_in.Reads as node-in
+use Rattle.interval.proofs.Interval.new.Reads as new
+use Rattle.interval.proofs.box_at.Reads as box-at
+use Rattle.narrow.specs.Narrowing.{forward, evalInterval}
+use Rattle.tree.proofs.Cycle.{at, below}
+use Rattle.narrow.proofs.eml_interval.Reads as eml-interval
+use Rattle.narrow.proofs.eval_eml.Reads as eml
+use Rattle.narrow.proofs.eval_eml.Kinds as eml-kinds
+use Rattle.narrow.proofs.+eval_eml+eval_interval.Lts-eval_eml as eml-lts
+use Rattle.narrow.proofs.eval_interval.Reads as tree
+use Rattle.narrow.proofs.eval_interval.Kinds as tree-kinds
+use Rattle.narrow.proofs.+eval_eml+eval_interval.Lts-eval_interval as interval-lts
+use Rattle.narrow.proofs.+eval_eml+eval_interval.{statement}
+use Rattle.narrow.proofs.+eval_eml+eval_interval.Tie.{close}
 
-abbrev μ-eval-eml : Measures 3 eval-eml-kinds.ps ℕ
-μ-eval-eml κs a = suc (2 * max (a .1 .0) (a .1 .1 .0))
+abbrev μ-eml : Measures 3 eml-kinds.ps ℕ
+μ-eml κs a = suc (2 * max (a .1 .0) (a .1 .1 .0))
 
-abbrev μ-eval-interval : Measures 3 eval-interval-kinds.ps ℕ
-μ-eval-interval κs a = 2 * a .1 .0
+abbrev μ-tree : Measures 3 tree-kinds.ps ℕ
+μ-tree κs a = 2 * a .1 .0
 
-abbrev eval-eml-at : ℕ → In 3 eval-eml-kinds.ps
-eval-eml-at t = and 3 eval-eml-kinds.ps (is 3 eval-eml-kinds.ps μ-eval-eml t) eval-eml.Pre
+module _ (t : ℕ) where
+  abbrev eml-calls : eml-lts.Claims
+  eml-calls = (below tree-kinds.ps μ-tree tree.Pre t, tree.Post, eml-interval.Asked, eml-interval.Learnt)
 
-abbrev eval-eml-below : ℕ → In 3 eval-eml-kinds.ps
-eval-eml-below t =
-    and 3 eval-eml-kinds.ps (falls 3 eval-eml-kinds.ps _<_ μ-eval-eml t) eval-eml.Pre
+  abbrev in-eml : (eml-lts.Claims → In 3 eml-kinds.ps → Out 3 eml-kinds.ps eml-kinds.r → Type 0) → Type 0
+  in-eml Need = Need eml-calls (at eml-kinds.ps μ-eml eml.Pre t) eml.Post
 
-abbrev eval-interval-at : ℕ → In 3 eval-interval-kinds.ps
-eval-interval-at t =
-    and 3 eval-interval-kinds.ps (is 3 eval-interval-kinds.ps μ-eval-interval t) eval-interval.Pre
+  abbrev tree-calls : interval-lts.Claims
+  tree-calls = (node-in.Asked, node-in.Learnt, new.Asked, new.Learnt, box-at.Asked, box-at.Learnt, below eml-kinds.ps μ-eml eml.Pre t, eml.Post)
 
-abbrev eval-interval-below : ℕ → In 3 eval-interval-kinds.ps
-eval-interval-below t =
-    and
-    3
-    eval-interval-kinds.ps
-    (falls 3 eval-interval-kinds.ps _<_ μ-eval-interval t)
-    eval-interval.Pre
+  abbrev in-tree : (interval-lts.Claims → In 3 tree-kinds.ps → Out 3 tree-kinds.ps tree-kinds.r → Type 0) → Type 0
+  in-tree Need = Need tree-calls (at tree-kinds.ps μ-tree tree.Pre t) tree.Post
 
-abbrev eval-eml-calls : ℕ → eval-eml-lts.Claims
-eval-eml-calls t = (eval-interval-below t, eval-interval.Post, eml-interval-reads.Asked, eml-interval-reads.Learnt)
+  -- ---- an Eml
+  left-requires : in-eml eml-lts.Need-eval-interval-requires
+  left-requires c κs = (omega (arith, c .before .before .before .pre .0), (c .before .before .before .pre .1 .0, c .before .before .before .pre .1 .2))
 
-abbrev eval-interval-calls : ℕ → eval-interval-lts.Claims
-eval-interval-calls t = (node-in-reads.Asked, node-in-reads.Learnt, new-reads.Asked, new-reads.Learnt, box-at-reads.Asked, box-at-reads.Learnt, eval-eml-below t, eval-eml.Post)
+  left-unknown : in-eml eml-lts.Need-returns
+  unfolding forward
+  left-unknown c = simp (sym (c .before .before .eval-interval .ensures) ∙ c .enum-told .given .1)
 
-eval-eml-eval-interval-requires : (t : ℕ) → eval-eml-lts.Need-eval-interval-requires (eval-eml-calls t) (eval-eml-at t) eval-eml.Post
-eval-eml-eval-interval-requires t c κs = (omega (arith, c .before .before .before .pre .0), (c .before .before .before .pre .1 .0, c .before .before .before .pre .1 .2))
+  right-requires : in-eml eml-lts.Need-eval-interval-requires-2
+  right-requires c κs =
+      let s = c .before .before .before .before .before .before .before in
+      (omega (arith, s .pre .0), (s .pre .1 .1, s .pre .1 .2))
 
-eval-eml-enum-known-l : (t : ℕ) → eval-eml-lts.Need-enum-known-l (eval-eml-calls t) (eval-eml-at t) eval-eml.Post
-eval-eml-enum-known-l t c = search needs
+  right-unknown : in-eml eml-lts.Need-returns-2
+  unfolding forward
+  right-unknown c =
+      let p₁ = c .before .before in
+      let p₂ = p₁ .before .before in
+      let p₃ = p₂ .before .before in
+      simp (sym (p₃ .eval-interval .ensures) ∙ p₂ .l .given .1, sym (p₁ .eval-interval2 .ensures) ∙ c .enum-told2 .given .1)
 
-eval-eml-enum-told : (t : ℕ) → eval-eml-lts.Need-enum-told (eval-eml-calls t) (eval-eml-at t) eval-eml.Post
-eval-eml-enum-told t c = search needs
+  both-known : in-eml eml-lts.Need-returns-3
+  unfolding forward
+  both-known c =
+      let p₁ = c .before .before in
+      let p₂ = p₁ .before .before in
+      let p₃ = p₂ .before .before in
+      let p₄ = p₃ .before .before in
+      simp (sym (p₄ .eval-interval .ensures) ∙ p₃ .l .given .1, sym (p₂ .eval-interval2 .ensures) ∙ p₁ .r .given .1, c .eml-interval .ensures)
 
-eval-eml-returns : (t : ℕ) → eval-eml-lts.Need-returns (eval-eml-calls t) (eval-eml-at t) eval-eml.Post
-unfolding forward
-eval-eml-returns t c = simp (sym (c .before .before .eval-interval .ensures) ∙ c .enum-told .given .1)
+  -- ---- a node
+  node-in-requires : in-tree interval-lts.Need-node-in-requires
+  node-in-requires c κs = record-there _ _ (c .before .before .before .pre .1 .0)
 
-eval-eml-eval-interval-requires-2 : (t : ℕ) → eval-eml-lts.Need-eval-interval-requires-2 (eval-eml-calls t) (eval-eml-at t) eval-eml.Post
-eval-eml-eval-interval-requires-2 t c κs = (omega (arith, c .before .before .before .before .before .before .before .pre .0), (c .before .before .before .before .before .before .before .pre .1 .1, c .before .before .before .before .before .before .before .pre .1 .2))
+  box-at-requires : in-tree interval-lts.Need-box-at-requires
+  box-at-requires c κs = c .before .before .before .before .before .before .before .pre .1 .1
 
-eval-eml-enum-known-r : (t : ℕ) → eval-eml-lts.Need-enum-known-r (eval-eml-calls t) (eval-eml-at t) eval-eml.Post
-eval-eml-enum-known-r t c = search needs
+  eml-requires : in-tree interval-lts.Need-eval-eml-requires
+  eml-requires c κs =
+      let p₁ = c .before in
+      let p₂ = p₁ .before .before in
+      let s = p₂ .before .before .before .before in
+      let e = sym (p₂ .node-in .ensures) ∙ p₁ .a .given .1 in
+      let x = at-left _ _ (s .pre .1 .0) _ _ e _ refl in
+      let y = at-right _ _ (s .pre .1 .0) _ _ e _ refl in
+      (omega (arith, s .pre .0, x .0, y .0), (x .1, y .1, s .pre .1 .1))
 
-eval-eml-enum-told-2 : (t : ℕ) → eval-eml-lts.Need-enum-told-2 (eval-eml-calls t) (eval-eml-at t) eval-eml.Post
-eval-eml-enum-told-2 t c = search needs
+  of-one : in-tree interval-lts.Need-returns
+  unfolding evalInterval
+  of-one c = simp (tree-one _ _ (sym (c .before .before .before .node-in .ensures) ∙ c .before .enum-told .given .1), c .new .ensures, one-is)
 
-eval-eml-returns-2 : (t : ℕ) → eval-eml-lts.Need-returns-2 (eval-eml-calls t) (eval-eml-at t) eval-eml.Post
-unfolding forward
-eval-eml-returns-2 t c =
-    let p₁ = c .before .before in
-    let p₂ = p₁ .before .before in
-    let p₃ = p₂ .before .before in
-    simp (sym (p₃ .eval-interval .ensures) ∙ p₂ .l .given .1, sym (p₁ .eval-interval2 .ensures) ∙ c .enum-told2 .given .1)
+  of-const : in-tree interval-lts.Need-returns-2
+  unfolding evalInterval
+  of-const c = simp (tree-const _ _ _ (sym (c .before .before .before .before .node-in .ensures) ∙ c .before .before .v .given .1), c .new2 .ensures)
 
-eval-eml-eml-interval-requires : (t : ℕ) → eval-eml-lts.Need-eml-interval-requires (eval-eml-calls t) (eval-eml-at t) eval-eml.Post
-eval-eml-eml-interval-requires t c κs = search needs
+  of-var : in-tree interval-lts.Need-returns-3
+  unfolding evalInterval
+  of-var c = simp (tree-var _ _ _ (sym (c .before .before .before .before .node-in .ensures) ∙ c .before .before .i .given .1), c .box-at .ensures)
 
-eval-eml-returns-3 : (t : ℕ) → eval-eml-lts.Need-returns-3 (eval-eml-calls t) (eval-eml-at t) eval-eml.Post
-unfolding forward
-eval-eml-returns-3 t c =
-    let p₁ = c .before .before in
-    let p₂ = p₁ .before .before in
-    let p₃ = p₂ .before .before in
-    let p₄ = p₃ .before .before in
-    simp (sym (p₄ .eval-interval .ensures) ∙ p₃ .l .given .1, sym (p₂ .eval-interval2 .ensures) ∙ p₁ .r .given .1, c .eml-interval .ensures)
-
-eval-interval-node-in-requires : (t : ℕ) → eval-interval-lts.Need-node-in-requires (eval-interval-calls t) (eval-interval-at t) eval-interval.Post
-eval-interval-node-in-requires t c κs = record-there _ _ (c .before .before .before .pre .1 .0)
-
-eval-interval-enum-told : (t : ℕ) → eval-interval-lts.Need-enum-told (eval-interval-calls t) (eval-interval-at t) eval-interval.Post
-eval-interval-enum-told t c = search needs
-
-eval-interval-new-requires : (t : ℕ) → eval-interval-lts.Need-new-requires (eval-interval-calls t) (eval-interval-at t) eval-interval.Post
-eval-interval-new-requires t c κs = search needs
-
-eval-interval-enum-known-v : (t : ℕ) → eval-interval-lts.Need-enum-known-v (eval-interval-calls t) (eval-interval-at t) eval-interval.Post
-eval-interval-enum-known-v t c = search needs
-
-eval-interval-new-requires-2 : (t : ℕ) → eval-interval-lts.Need-new-requires-2 (eval-interval-calls t) (eval-interval-at t) eval-interval.Post
-eval-interval-new-requires-2 t c κs = search needs
-
-eval-interval-enum-known-i : (t : ℕ) → eval-interval-lts.Need-enum-known-i (eval-interval-calls t) (eval-interval-at t) eval-interval.Post
-eval-interval-enum-known-i t c = search needs
-
-eval-interval-box-at-requires : (t : ℕ) → eval-interval-lts.Need-box-at-requires (eval-interval-calls t) (eval-interval-at t) eval-interval.Post
-eval-interval-box-at-requires t c κs = c .before .before .before .before .before .before .before .pre .1 .1
-
-eval-interval-enum-known-a : (t : ℕ) → eval-interval-lts.Need-enum-known-a (eval-interval-calls t) (eval-interval-at t) eval-interval.Post
-eval-interval-enum-known-a t c = search needs
-
-eval-interval-eval-eml-requires : (t : ℕ) → eval-interval-lts.Need-eval-eml-requires (eval-interval-calls t) (eval-interval-at t) eval-interval.Post
-eval-interval-eval-eml-requires t c κs =
-    let s = c .before .before .before .before .before .before .before in
-    let e = sym (c .before .before .before .node-in .ensures) ∙ c .before .a .given .1 in
-    let x = at-left _ _ (s .pre .1 .0) _ _ e _ refl in
-    let y = at-right _ _ (s .pre .1 .0) _ _ e _ refl in
-    (omega (arith, s .pre .0, x .0, y .0), (x .1, y .1, s .pre .1 .1))
-
-eval-interval-returns : (t : ℕ) → eval-interval-lts.Need-returns (eval-interval-calls t) (eval-interval-at t) eval-interval.Post
-unfolding evalInterval
-eval-interval-returns t c = simp (tree-one _ _ (sym (c .before .before .before .node-in .ensures) ∙ c .before .enum-told .given .1), c .new .ensures, one-is)
-
-eval-interval-returns-2 : (t : ℕ) → eval-interval-lts.Need-returns-2 (eval-interval-calls t) (eval-interval-at t) eval-interval.Post
-unfolding evalInterval
-eval-interval-returns-2 t c = simp (tree-const _ _ _ (sym (c .before .before .before .before .node-in .ensures) ∙ c .before .before .v .given .1), c .new2 .ensures)
-
-eval-interval-returns-3 : (t : ℕ) → eval-interval-lts.Need-returns-3 (eval-interval-calls t) (eval-interval-at t) eval-interval.Post
-unfolding evalInterval
-eval-interval-returns-3 t c = simp (tree-var _ _ _ (sym (c .before .before .before .before .node-in .ensures) ∙ c .before .before .i .given .1), c .box-at .ensures)
-
-eval-interval-returns-4 : (t : ℕ) → eval-interval-lts.Need-returns-4 (eval-interval-calls t) (eval-interval-at t) eval-interval.Post
-unfolding evalInterval
-eval-interval-returns-4 t c =
-    let p₁ = c .before .before in
-    let p₂ = p₁ .before .before in
-    let s = p₂ .before .before .before .before in
-    simp (tree-is _ _ (s .pre .1 .0) _ _ (sym (p₂ .node-in .ensures) ∙ p₁ .a .given .1), c .eval-eml .ensures)
+  of-eml : in-tree interval-lts.Need-returns-4
+  unfolding evalInterval
+  of-eml c =
+      let p₁ = c .before .before in
+      let p₂ = p₁ .before .before in
+      let s = p₂ .before .before .before .before in
+      simp (tree-is _ _ (s .pre .1 .0) _ _ (sym (p₂ .node-in .ensures) ∙ p₁ .a .given .1), c .eval-eml .ensures)
 
 pub +eval-eml+eval-interval-spec : {M : Type 1} → statement M
-+eval-eml+eval-interval-spec = close μ-eval-eml μ-eval-interval (λ t. eval-eml-lts.spec (eval-eml-calls t) (eval-eml-at t) eval-eml.Post
-    (eval-eml-eval-interval-requires t)
-    (eval-eml-enum-known-l t)
-    (eval-eml-enum-told t)
-    (eval-eml-returns t)
-    (eval-eml-eval-interval-requires-2 t)
-    (eval-eml-enum-known-r t)
-    (eval-eml-enum-told-2 t)
-    (eval-eml-returns-2 t)
-    (eval-eml-eml-interval-requires t)
-    (eval-eml-returns-3 t))
-    λ t. eval-interval-lts.spec (eval-interval-calls t) (eval-interval-at t) eval-interval.Post
-    (eval-interval-node-in-requires t)
-    (eval-interval-enum-told t)
-    (eval-interval-new-requires t)
-    (eval-interval-enum-known-v t)
-    (eval-interval-new-requires-2 t)
-    (eval-interval-enum-known-i t)
-    (eval-interval-box-at-requires t)
-    (eval-interval-enum-known-a t)
-    (eval-interval-eval-eml-requires t)
-    (eval-interval-returns t)
-    (eval-interval-returns-2 t)
-    (eval-interval-returns-3 t)
-    (eval-interval-returns-4 t)
++eval-eml+eval-interval-spec =
+    close μ-eml μ-tree
+    (λ t. eml-lts.spec (eml-calls t) (at eml-kinds.ps μ-eml eml.Pre t) eml.Post
+    (left-requires t)
+    (λ c. search needs)
+    (λ c. search needs)
+    (left-unknown t)
+    (right-requires t)
+    (λ c. search needs)
+    (λ c. search needs)
+    (right-unknown t)
+    (λ c κs. search needs)
+    (both-known t))
+    λ t. interval-lts.spec (tree-calls t) (at tree-kinds.ps μ-tree tree.Pre t) tree.Post
+    (node-in-requires t)
+    (λ c. search needs)
+    (λ c κs. search needs)
+    (λ c. search needs)
+    (λ c κs. search needs)
+    (λ c. search needs)
+    (box-at-requires t)
+    (λ c. search needs)
+    (eml-requires t)
+    (of-one t)
+    (of-const t)
+    (of-var t)
+    (of-eml t)

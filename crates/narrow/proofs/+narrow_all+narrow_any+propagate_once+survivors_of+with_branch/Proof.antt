@@ -1,489 +1,409 @@
--- `narrow::narrow_all` and `narrow::narrow_any` and `narrow::propagate_once` and `narrow::survivors_of` and `narrow::with_branch` meet their contracts. Assumes nothing.
-use Rattle.constraint.specs.RecordLaws.{record-there, some, inside, at-atom, atom-node, at-not, at-and, and-taken, at-or, or-taken, at-forall, at-exists, none-taken, start-falls, before-last, last, up-to}
-use Prim.Native.Nat.{ℕ, _<_, _+_, _*_}
-use borrow.Fn.Kinds.{In}
-use borrow.Fn.PlainCycle.{Measures, is, falls, and}
-use Rattle.narrow.proofs.narrow_all.Reads as narrow-all
-use Rattle.narrow.proofs.narrow_all.Kinds as narrow-all-kinds
-use Rattle.narrow.proofs.+narrow_all+narrow_any+propagate_once+survivors_of+with_branch.Lts-narrow_all as narrow-all-lts
-use Rattle.narrow.proofs.narrow_any.Reads as narrow-any
-use Rattle.narrow.proofs.narrow_any.Kinds as narrow-any-kinds
-use Rattle.narrow.proofs.+narrow_all+narrow_any+propagate_once+survivors_of+with_branch.Lts-narrow_any as narrow-any-lts
-use Rattle.narrow.proofs.propagate_once.Reads as propagate-once
-use Rattle.narrow.proofs.propagate_once.Kinds as propagate-once-kinds
-use Rattle.narrow.proofs.+narrow_all+narrow_any+propagate_once+survivors_of+with_branch.Lts-propagate_once as propagate-once-lts
-use Rattle.narrow.proofs.survivors_of.Reads as survivors-of
-use Rattle.narrow.proofs.survivors_of.Kinds as survivors-of-kinds
-use Rattle.narrow.proofs.+narrow_all+narrow_any+propagate_once+survivors_of+with_branch.Lts-survivors_of as survivors-of-lts
-use Rattle.narrow.proofs.with_branch.Reads as with-branch
-use Rattle.narrow.proofs.with_branch.Kinds as with-branch-kinds
-use Rattle.narrow.proofs.+narrow_all+narrow_any+propagate_once+survivors_of+with_branch.Lts-with_branch as with-branch-lts
-use Rattle.constraint.proofs.record_in.Reads as record-in-reads
-use Rattle.interval.proofs.Boxes.new.Reads as new-reads
-use Rattle.narrow.proofs.adopt_survivors.Reads as adopt-survivors-reads
-use Rattle.narrow.proofs.is_conflict.Reads as is-conflict-reads
-use Rattle.narrow.proofs.is_negated.Reads as is-negated-reads
-use Rattle.narrow.proofs.narrow_atom.Reads as narrow-atom-reads
-use Rattle.narrow.proofs.relation_in.Reads as relation-in-reads
-use Rattle.narrow.proofs.survive.Reads as survive-reads
-use Rattle.narrow.proofs.under_not.Reads as under-not-reads
-use Rattle.narrow.proofs.worse.Reads as worse-reads
-use Rattle.narrow.proofs.+narrow_all+narrow_any+propagate_once+survivors_of+with_branch.{statement}
-use Rattle.narrow.proofs.+narrow_all+narrow_any+propagate_once+survivors_of+with_branch.Tie.{close}
-use mathlib.Core.Path.{_≡_, refl, sym, _∙_}
+-- `narrow::narrow_all`, `narrow::narrow_any`, `narrow::propagate_once`, `narrow::survivors_of` and `narrow::with_branch` meet their contracts. Assumes nothing.
+use Prim.Native.Nat.{ℕ, _+_, _*_, _≤_}
+use mathlib.Core.Path.{refl, sym, ap, _∙_}
+use mathlib.Core.List.{List}
 use native.Mathlib.Omega.{arith}
 use borrow.Author.Needs.{needs, length-unmapped}
-use lib.ListN.{length, drop}
-use lib.Seq.{length-take-le}
-use Rattle.narrow.proofs.Rounds.{all-stops, all-goes-on, any-more, all-none, any-none, pass-atom, pass-not, pass-and-any, pass-and-all, pass-or-any, pass-or-all, pass-forall, pass-exists, copied, one-of, branch-is}
+use borrow.Fn.Kinds.{In, Out}
+use borrow.Fn.PlainCycle.{Measures}
 use lib.Ieee.{Float}
+use lib.ListN.{length}
+use lib.Seq.{length-take-le}
+use Rattle.interval.specs.declared.Interval.{Interval}
 use Rattle.interval.specs.Boxes.{boxesOf}
-use Rattle.narrow.specs.Narrowing.{survive}
-use Rattle.narrow.specs.Modes.{survivorsOf}
+use Rattle.record.specs.Leaving.{_leaving_}
+use Rattle.constraint.specs.RecordLaws.{record-there, some, none-taken, start-falls, before-last, last, up-to}
+use Rattle.constraint.proofs.record_in.Reads as record-in
+use Rattle.interval.proofs.Boxes.new.Reads as new
+use Rattle.narrow.specs.Narrowing.{survive as surviveOf}
+use Rattle.tree.proofs.Cycle.{at, below}
+use Rattle.narrow.proofs.Passes.{all-stops, all-goes-on, any-more, all-none, any-none, fine, does, copied, one-of, crossed}
+use Rattle.narrow.proofs.adopt_survivors.Reads as adopt-survivors
+use Rattle.narrow.proofs.is_conflict.Reads as is-conflict
+use Rattle.narrow.proofs.narrow_atom.Reads as narrow-atom
+use Rattle.narrow.proofs.step_of.Reads as step-of
+use Rattle.narrow.proofs.survive.Reads as survive
+use Rattle.narrow.proofs.worse.Reads as worse
+use Rattle.narrow.proofs.with_branch.Reads as branch
+use Rattle.narrow.proofs.with_branch.Kinds as branch-kinds
+use Rattle.narrow.proofs.+narrow_all+narrow_any+propagate_once+survivors_of+with_branch.Lts-with_branch as with-branch-lts
+use Rattle.narrow.proofs.narrow_all.Reads as all
+use Rattle.narrow.proofs.narrow_all.Kinds as all-kinds
+use Rattle.narrow.proofs.+narrow_all+narrow_any+propagate_once+survivors_of+with_branch.Lts-narrow_all as all-lts
+use Rattle.narrow.proofs.narrow_any.Reads as any
+use Rattle.narrow.proofs.narrow_any.Kinds as any-kinds
+use Rattle.narrow.proofs.+narrow_all+narrow_any+propagate_once+survivors_of+with_branch.Lts-narrow_any as any-lts
+use Rattle.narrow.proofs.propagate_once.Reads as once
+use Rattle.narrow.proofs.propagate_once.Kinds as once-kinds
+use Rattle.narrow.proofs.+narrow_all+narrow_any+propagate_once+survivors_of+with_branch.Lts-propagate_once as once-lts
+use Rattle.narrow.proofs.survivors_of.Reads as survivors
+use Rattle.narrow.proofs.survivors_of.Kinds as survivors-kinds
+use Rattle.narrow.proofs.+narrow_all+narrow_any+propagate_once+survivors_of+with_branch.Lts-survivors_of as survivors-of-lts
+use Rattle.narrow.proofs.+narrow_all+narrow_any+propagate_once+survivors_of+with_branch.{statement}
+use Rattle.narrow.proofs.+narrow_all+narrow_any+propagate_once+survivors_of+with_branch.Tie.{close}
 
-abbrev μ-narrow-all : Measures 5 narrow-all-kinds.ps ℕ
-μ-narrow-all κs a = 4 * a .1 .1 .1 .1 .1 .1 .0 + 1
+-- by the record's number, and within it by who calls whom
+abbrev μ-branch : Measures 3 branch-kinds.ps ℕ
+μ-branch κs a = 4 * a .1 .1 .1 .0 + 4
 
-abbrev μ-narrow-any : Measures 5 narrow-any-kinds.ps ℕ
-μ-narrow-any κs a = 4 * a .1 .1 .1 .1 .1 .1 .0 + 2
+abbrev μ-all : Measures 5 all-kinds.ps ℕ
+μ-all κs a = 4 * a .1 .1 .1 .1 .0 + 1
 
-abbrev μ-propagate-once : Measures 5 propagate-once-kinds.ps ℕ
-μ-propagate-once κs a = 4 * a .1 .1 .1 .1 .1 .0 + 3
+abbrev μ-any : Measures 5 any-kinds.ps ℕ
+μ-any κs a = 4 * a .1 .1 .1 .1 .0 + 2
 
-abbrev μ-survivors-of : Measures 3 survivors-of-kinds.ps ℕ
-μ-survivors-of κs a = 4 * a .1 .1 .1 .1 .1 .1 .0 + 1
+abbrev μ-once : Measures 5 once-kinds.ps ℕ
+μ-once κs a = 4 * a .1 .1 .1 .0 + 3
 
-abbrev μ-with-branch : Measures 3 with-branch-kinds.ps ℕ
-μ-with-branch κs a = 4 * a .1 .1 .1 .1 .1 .0 + 4
+abbrev μ-survivors : Measures 3 survivors-kinds.ps ℕ
+μ-survivors κs a = 4 * a .1 .1 .1 .1 .0 + 1
 
-abbrev narrow-all-at : ℕ → In 5 narrow-all-kinds.ps
-narrow-all-at t =
-    and 5 narrow-all-kinds.ps (is 5 narrow-all-kinds.ps μ-narrow-all t) narrow-all.Pre
+module _ (t : ℕ) where
+  abbrev all-below : In 5 all-kinds.ps
+  all-below = below all-kinds.ps μ-all all.Pre t
 
-abbrev narrow-all-below : ℕ → In 5 narrow-all-kinds.ps
-narrow-all-below t =
-    and 5 narrow-all-kinds.ps (falls 5 narrow-all-kinds.ps _<_ μ-narrow-all t) narrow-all.Pre
+  abbrev once-below : In 5 once-kinds.ps
+  once-below = below once-kinds.ps μ-once once.Pre t
 
-abbrev narrow-any-at : ℕ → In 5 narrow-any-kinds.ps
-narrow-any-at t =
-    and 5 narrow-any-kinds.ps (is 5 narrow-any-kinds.ps μ-narrow-any t) narrow-any.Pre
+  abbrev survivors-below : In 3 survivors-kinds.ps
+  survivors-below = below survivors-kinds.ps μ-survivors survivors.Pre t
 
-abbrev narrow-any-below : ℕ → In 5 narrow-any-kinds.ps
-narrow-any-below t =
-    and 5 narrow-any-kinds.ps (falls 5 narrow-any-kinds.ps _<_ μ-narrow-any t) narrow-any.Pre
+  -- what each may assume, of its callees and of itself, and its needs at that
+  abbrev branch-calls : with-branch-lts.Claims
+  branch-calls = (once-below, once.Post, survive.Asked, survive.Learnt)
 
-abbrev propagate-once-at : ℕ → In 5 propagate-once-kinds.ps
-propagate-once-at t =
-    and
-    5
-    propagate-once-kinds.ps
-    (is 5 propagate-once-kinds.ps μ-propagate-once t)
-    propagate-once.Pre
+  abbrev branch-at : In 3 branch-kinds.ps
+  branch-at = at branch-kinds.ps μ-branch branch.Pre t
 
-abbrev propagate-once-below : ℕ → In 5 propagate-once-kinds.ps
-propagate-once-below t =
-    and
-    5
-    propagate-once-kinds.ps
-    (falls 5 propagate-once-kinds.ps _<_ μ-propagate-once t)
-    propagate-once.Pre
+  abbrev in-branch : (with-branch-lts.Claims → In 3 branch-kinds.ps → Out 3 branch-kinds.ps branch-kinds.r → Type 0) → Type 0
+  in-branch Need = Need branch-calls branch-at branch.Post
 
-abbrev survivors-of-at : ℕ → In 3 survivors-of-kinds.ps
-survivors-of-at t =
-    and 3 survivors-of-kinds.ps (is 3 survivors-of-kinds.ps μ-survivors-of t) survivors-of.Pre
+  abbrev all-calls : all-lts.Claims
+  all-calls = (all-below, all.Post, is-conflict.Asked, is-conflict.Learnt, once-below, once.Post, worse.Asked, worse.Learnt)
 
-abbrev survivors-of-below : ℕ → In 3 survivors-of-kinds.ps
-survivors-of-below t =
-    and
-    3
-    survivors-of-kinds.ps
-    (falls 3 survivors-of-kinds.ps _<_ μ-survivors-of t)
-    survivors-of.Pre
+  abbrev all-at : In 5 all-kinds.ps
+  all-at = at all-kinds.ps μ-all all.Pre t
 
-abbrev with-branch-at : ℕ → In 3 with-branch-kinds.ps
-with-branch-at t =
-    and 3 with-branch-kinds.ps (is 3 with-branch-kinds.ps μ-with-branch t) with-branch.Pre
+  abbrev in-all : (all-lts.Claims → In 5 all-kinds.ps → Out 5 all-kinds.ps all-kinds.r → Type 0) → Type 0
+  in-all Need = Need all-calls all-at all.Post
 
-abbrev with-branch-below : ℕ → In 3 with-branch-kinds.ps
-with-branch-below t =
-    and 3 with-branch-kinds.ps (falls 3 with-branch-kinds.ps _<_ μ-with-branch t) with-branch.Pre
+  abbrev any-calls : any-lts.Claims
+  any-calls = (new.Asked, new.Learnt, survivors-below, survivors.Post, adopt-survivors.Asked, adopt-survivors.Learnt)
 
-abbrev narrow-all-calls : ℕ → narrow-all-lts.Claims
-narrow-all-calls t = (narrow-all-below t, narrow-all.Post, is-conflict-reads.Asked, is-conflict-reads.Learnt, propagate-once-below t, propagate-once.Post, worse-reads.Asked, worse-reads.Learnt)
+  abbrev any-at : In 5 any-kinds.ps
+  any-at = at any-kinds.ps μ-any any.Pre t
 
-abbrev narrow-any-calls : ℕ → narrow-any-lts.Claims
-narrow-any-calls t = (new-reads.Asked, new-reads.Learnt, survivors-of-below t, survivors-of.Post, adopt-survivors-reads.Asked, adopt-survivors-reads.Learnt)
+  abbrev in-any : (any-lts.Claims → In 5 any-kinds.ps → Out 5 any-kinds.ps any-kinds.r → Type 0) → Type 0
+  in-any Need = Need any-calls any-at any.Post
 
-abbrev propagate-once-calls : ℕ → propagate-once-lts.Claims
-propagate-once-calls t = (record-in-reads.Asked, record-in-reads.Learnt, relation-in-reads.Asked, relation-in-reads.Learnt, narrow-atom-reads.Asked, narrow-atom-reads.Learnt, under-not-reads.Asked, under-not-reads.Learnt, propagate-once-below t, propagate-once.Post, is-negated-reads.Asked, is-negated-reads.Learnt, narrow-any-below t, narrow-any.Post, narrow-all-below t, narrow-all.Post)
+  abbrev once-calls : once-lts.Claims
+  once-calls = (record-in.Asked, record-in.Learnt, step-of.Asked, step-of.Learnt, narrow-atom.Asked, narrow-atom.Learnt, once-below, once.Post, all-below, all.Post, below any-kinds.ps μ-any any.Pre t, any.Post)
 
-abbrev survivors-of-calls : ℕ → survivors-of-lts.Claims
-survivors-of-calls t = (survivors-of-below t, survivors-of.Post, with-branch-below t, with-branch.Post)
+  abbrev once-at : In 5 once-kinds.ps
+  once-at = at once-kinds.ps μ-once once.Pre t
 
-abbrev with-branch-calls : ℕ → with-branch-lts.Claims
-with-branch-calls t = (propagate-once-below t, propagate-once.Post, survive-reads.Asked, survive-reads.Learnt)
+  abbrev in-once : (once-lts.Claims → In 5 once-kinds.ps → Out 5 once-kinds.ps once-kinds.r → Type 0) → Type 0
+  in-once Need = Need once-calls once-at once.Post
 
-narrow-all-returns : (t : ℕ) → narrow-all-lts.Need-returns (narrow-all-calls t) (narrow-all-at t) narrow-all.Post
-narrow-all-returns t c =
-    let s = c .before .before .before .before .before in
-    all-none _ _ _ _ (none-taken _ _ _ _ _ (s .pre .1 .0) (c .if1 .taken))
+  abbrev survivors-calls : survivors-of-lts.Claims
+  survivors-calls = (survivors-below, survivors.Post, below branch-kinds.ps μ-branch branch.Pre t, branch.Post)
 
-narrow-all-sub-last : (t : ℕ) → narrow-all-lts.Need-sub-last (narrow-all-calls t) (narrow-all-at t) narrow-all.Post
-narrow-all-sub-last t c =
-    let s = c .before .before .before .before .before in
-    omega (arith, some _ _ _ _ _ (s .pre .1 .0) (c .if1 .left))
+  abbrev survivors-at : In 3 survivors-kinds.ps
+  survivors-at = at survivors-kinds.ps μ-survivors survivors.Pre t
 
-narrow-all-element-copy-out-s : (t : ℕ) → narrow-all-lts.Need-element-copy-out-s (narrow-all-calls t) (narrow-all-at t) narrow-all.Post
-narrow-all-element-copy-out-s t c =
-    let s = c .before .before .before .before .before in
-    omega (arith, some _ _ _ _ _ (s .pre .1 .0) (c .if1 .left), s .pre .1 .0 .ready .few)
+  abbrev in-survivors : (survivors-of-lts.Claims → In 3 survivors-kinds.ps → Out 3 survivors-kinds.ps survivors-kinds.r → Type 0) → Type 0
+  in-survivors Need = Need survivors-calls survivors-at survivors.Post
 
-narrow-all-narrow-all-requires : (t : ℕ) → narrow-all-lts.Need-narrow-all-requires (narrow-all-calls t) (narrow-all-at t) narrow-all.Post
-narrow-all-narrow-all-requires t c κs =
-    let p₁ = c .before .before .before in
-    let s = p₁ .before .before .before .before .before in
-    let w = start-falls _ _ _ _ _ (s .pre .1 .0) (p₁ .if1 .left) _ refl in (omega arith, (before-last _ _ _ _ _ (s .pre .1 .0) (p₁ .if1 .left) _ refl, s .pre .1 .1, s .pre .1 .2))
+  -- ---- a round on boxes by value
+  -- each array has 16 places
+  lows : (s : with-branch-lts.Start branch-calls branch-at branch.Post) → s .args .boxes .count ≤ length (s .args .boxes .lo)
+  lows s = omega (arith, s .pre .1 .1, length-unmapped Float (s .args .boxes .lo) 16 (s .good .1 .1 .1 .1 .1 .1 .0 .1 .1 .0 .1 .0 .1))
 
-narrow-all-returns-2 : (t : ℕ) → narrow-all-lts.Need-returns-2 (narrow-all-calls t) (narrow-all-at t) narrow-all.Post
-narrow-all-returns-2 t c =
-    let p₁ = c .before in
-    let p₂ = p₁ .before .before .before .before .before in
-    let p₃ = p₂ .before .before .before .before in
-    let s = p₃ .before .before .before .before .before in
-    all-stops _ _ _ _ _ _ (up-to _ _ _ _ _ (s .pre .1 .0) (p₃ .if1 .left) _ refl) (p₂ .narrow-all .ensures) (sym (p₁ .is-conflict .ensures) ∙ c .if2 .taken)
+  highs : (s : with-branch-lts.Start branch-calls branch-at branch.Post) → s .args .boxes .count ≤ length (s .args .boxes .hi)
+  highs s = omega (arith, s .pre .1 .1, length-unmapped Float (s .args .boxes .hi) 16 (s .good .1 .1 .1 .1 .1 .1 .0 .1 .1 .1 .0 .1 .0 .1))
 
-narrow-all-propagate-once-requires : (t : ℕ) → narrow-all-lts.Need-propagate-once-requires (narrow-all-calls t) (narrow-all-at t) narrow-all.Post
-narrow-all-propagate-once-requires t c κs =
-    let p₁ = c .before .before .before .before .before .before .before .before in
-    let p₂ = p₁ .before .before .before .before in
-    let s = p₂ .before .before .before .before .before in
-    let w = some _ _ _ _ _ (s .pre .1 .0) (p₂ .if1 .left) in (omega arith, (last _ _ _ _ _ (s .pre .1 .0) (p₂ .if1 .left) _ refl, p₁ .narrow-all .kept .1 .1 .1 .1 .1 .1 .1 .1 .0 ∙ s .pre .1 .1 ∙ sym (p₁ .narrow-all .kept .1 .1 .1 .1 .1 .1 .1 .0), omega (arith, s .pre .1 .2, p₁ .narrow-all .kept .1 .1 .1 .1 .1 .1 .1 .0)))
+  lo-borrowed : in-branch with-branch-lts.Need-array-borrow-prefix-lo
+  lo-borrowed c = lows (c .before .before .before .before)
 
-narrow-all-returns-3 : (t : ℕ) → narrow-all-lts.Need-returns-3 (narrow-all-calls t) (narrow-all-at t) narrow-all.Post
-narrow-all-returns-3 t c =
-    let p₁ = c .before .before .before .before .before in
-    let p₂ = p₁ .before .before .before in
-    let p₃ = p₂ .before in
-    let p₄ = p₃ .before .before .before .before .before in
-    let p₅ = p₄ .before .before .before .before in
-    let s = p₅ .before .before .before .before .before in
-    all-goes-on _ _ _ _ _ _ (up-to _ _ _ _ _ (s .pre .1 .0) (p₅ .if1 .left) _ refl) (p₄ .narrow-all .ensures) (sym (p₃ .is-conflict .ensures) ∙ p₂ .if2 .left) (p₁ .propagate-once .ensures) (c .worse .ensures)
+  lo-sized : in-branch with-branch-lts.Need-slice-aggregate-propagate-once
+  lo-sized c = sym (length-take-le _ _ (lows (c .before .before .before .before .before)))
 
-narrow-any-new-requires : (t : ℕ) → narrow-any-lts.Need-new-requires (narrow-any-calls t) (narrow-any-at t) narrow-any.Post
-narrow-any-new-requires t c κs =
-    let s = c .before .before .before .before .before .before in
-    (s .pre .1 .1, s .pre .1 .2)
+  hi-borrowed : in-branch with-branch-lts.Need-array-borrow-prefix-hi
+  hi-borrowed c = highs (c .before .before .before .before .before)
 
-narrow-any-survivors-of-requires : (t : ℕ) → narrow-any-lts.Need-survivors-of-requires (narrow-any-calls t) (narrow-any-at t) narrow-any.Post
-narrow-any-survivors-of-requires t c κs =
-    let s = c .before .before .before .before .before .before .before in
-    (omega arith, (s .pre .1 .0, omega (arith, c .new .ensures .0)))
+  hi-sized : in-branch with-branch-lts.Need-slice-aggregate-propagate-once-2
+  hi-sized c = sym (length-take-le _ _ (highs (c .before .before .before .before .before .before)))
 
-narrow-any-adopt-survivors-requires : (t : ℕ) → narrow-any-lts.Need-adopt-survivors-requires (narrow-any-calls t) (narrow-any-at t) narrow-any.Post
-narrow-any-adopt-survivors-requires t c κs =
-    let p₁ = c .before .before in
-    let p₂ = p₁ .before in
-    let s = p₂ .before .before .before .before .before .before .before in
-    let e = p₁ .survivors-of .ensures .0 ∙ p₂ .new .ensures .0 in (omega (arith, e, s .pre .1 .2), sym e, s .pre .1 .1 ∙ sym e)
+  branch-once-requires : in-branch with-branch-lts.Need-propagate-once-requires
+  branch-once-requires c κs =
+      let s = c .before .before .before .before .before .before in
+      let a = length-take-le _ _ (lows s) in let b = length-take-le _ _ (highs s) in
+      (omega arith, (s .pre .1 .0, b ∙ sym a, omega (arith, a, s .pre .1 .1)))
 
-narrow-any-returns : (t : ℕ) → narrow-any-lts.Need-returns (narrow-any-calls t) (narrow-any-at t) narrow-any.Post
-narrow-any-returns t c =
-    let p₁ = c .before .before .before .before in
-    let p₂ = p₁ .before .before .before in
-    let p₃ = p₂ .before in
-    let s = p₃ .before .before .before .before .before .before .before in
-    one-of _ _ _ (copied _ _ (s .pre .1 .1) (p₃ .new .ensures .1)) (p₂ .survivors-of .ensures .1) (p₁ .adopt-survivors .ensures)
+  survive-requires : in-branch with-branch-lts.Need-survive-requires
+  survive-requires c κs =
+      let s = c .before .before .before .before .before .before .before .before .before in
+      (omega (arith, s .pre .1 .1, s .pre .1 .2), sym (s .pre .1 .2))
 
-propagate-once-record-in-requires : (t : ℕ) → propagate-once-lts.Need-record-in-requires (propagate-once-calls t) (propagate-once-at t) propagate-once.Post
-propagate-once-record-in-requires t c κs =
-    let s = c .before .before .before .before in
-    record-there _ _ _ _ (s .pre .1 .0)
+  branch-returns : in-branch with-branch-lts.Need-returns
+  unfolding boxesOf
+  branch-returns c =
+      let p₁ = c .before .before .before in
+      let s = p₁ .before .before .before .before .before .before .before in
+      let p = p₁ .propagate-once in
+      let e = crossed _ _ _ _ _ (p .kept .1 .1 .1 .1 .1 .1 .0 ∙ length-take-le _ _ (lows s)) (p .kept .1 .1 .1 .1 .1 .1 .1 .0 ∙ length-take-le _ _ (highs s)) in
+      (c .survive .ensures .0 ∙ s .pre .1 .2, c .survive .ensures .1 ∙ ap (surviveOf _) (ap (λ (x : List Interval). p .result leaving x) e ∙ p .ensures))
 
-propagate-once-narrow-atom-requires : (t : ℕ) → propagate-once-lts.Need-narrow-atom-requires (propagate-once-calls t) (propagate-once-at t) propagate-once.Post
-propagate-once-narrow-atom-requires t c κs =
-    let p₁ = c .before .before .before .before in
-    let p₂ = p₁ .before .before in
-    let s = p₂ .before .before .before .before .before in
-    (atom-node _ _ _ _ (s .pre .1 .0) _ _ (sym (p₂ .record-in .ensures) ∙ p₁ .relation .given .1), s .pre .1 .1)
+  -- ---- all of several
+  all-returns : in-all all-lts.Need-returns
+  all-returns c = all-none _ _ _ _ (none-taken _ _ _ _ _ (c .before .before .before .before .before .pre .1 .0) (c .if1 .taken))
 
-propagate-once-sub-propagate-once : (t : ℕ) → propagate-once-lts.Need-sub-propagate-once (propagate-once-calls t) (propagate-once-at t) propagate-once.Post
-propagate-once-sub-propagate-once t c =
-    let p₁ = c .before in
-    let p₂ = p₁ .before .before in
-    let s = p₂ .before .before .before .before .before in
-    omega (arith, inside _ _ _ _ (s .pre .1 .0) _ (sym (p₂ .record-in .ensures) ∙ p₁ .enum-told .given .1) refl .0)
+  all-sub : in-all all-lts.Need-sub-last
+  all-sub c = omega (arith, some _ _ _ _ _ (c .before .before .before .before .before .pre .1 .0) (c .if1 .left))
 
-propagate-once-propagate-once-requires : (t : ℕ) → propagate-once-lts.Need-propagate-once-requires (propagate-once-calls t) (propagate-once-at t) propagate-once.Post
-propagate-once-propagate-once-requires t c κs =
-    let p₁ = c .before .before .before in
-    let p₂ = p₁ .before .before in
-    let s = p₂ .before .before .before .before .before in
-    let w = inside _ _ _ _ (s .pre .1 .0) _ (sym (p₂ .record-in .ensures) ∙ p₁ .enum-told .given .1) refl in (omega arith, (w .1, s .pre .1 .1, s .pre .1 .2))
+  all-start : in-all all-lts.Need-element-copy-out-s
+  all-start c = omega (arith, some _ _ _ _ _ (c .before .before .before .before .before .pre .1 .0) (c .if1 .left), c .before .before .before .before .before .pre .1 .0 .ready .few)
 
-propagate-once-narrow-any-requires : (t : ℕ) → propagate-once-lts.Need-narrow-any-requires (propagate-once-calls t) (propagate-once-at t) propagate-once.Post
-propagate-once-narrow-any-requires t c κs =
-    let p₁ = c .before .before .before .before .before in
-    let p₂ = p₁ .before .before in
-    let s = p₂ .before .before .before .before .before in
-    (omega arith, (and-taken _ _ _ _ (s .pre .1 .0) _ (sym (p₂ .record-in .ensures) ∙ p₁ .m .given .1), s .pre .1 .1, s .pre .1 .2))
+  all-before-requires : in-all all-lts.Need-narrow-all-requires
+  all-before-requires c κs =
+      let p₁ = c .before .before .before in
+      let s = p₁ .before .before .before .before .before in
+      let w = start-falls _ _ _ _ _ (s .pre .1 .0) (p₁ .if1 .left) _ refl in
+      (omega arith, (before-last _ _ _ _ _ (s .pre .1 .0) (p₁ .if1 .left) _ refl, s .pre .1 .1, s .pre .1 .2))
 
-propagate-once-returns : (t : ℕ) → propagate-once-lts.Need-returns (propagate-once-calls t) (propagate-once-at t) propagate-once.Post
-propagate-once-returns t c =
-    let p₁ = c .before .before .before .before in
-    let p₂ = p₁ .before .before .before in
-    let p₃ = p₂ .before in
-    let p₄ = p₃ .before .before in
-    let p₅ = p₄ .before .before in
-    let s = p₅ .before .before .before .before .before in
-    pass-and-any _ _ _ (at-and _ _ _ _ (s .pre .1 .0) _ (sym (p₅ .record-in .ensures) ∙ p₄ .m .given .1)) (sym (p₃ .is-negated .ensures) ∙ p₂ .if1 .taken) (p₁ .narrow-any .ensures)
+  all-stopped : in-all all-lts.Need-returns-2
+  all-stopped c =
+      let p₁ = c .before in
+      let p₂ = p₁ .before .before .before .before .before in
+      let p₃ = p₂ .before .before .before .before in
+      let s = p₃ .before .before .before .before .before in
+      all-stops _ _ _ _ _ _ (up-to _ _ _ _ _ (s .pre .1 .0) (p₃ .if1 .left) _ refl) (p₂ .narrow-all .ensures) (sym (p₁ .is-conflict .ensures) ∙ c .if2 .taken)
 
-propagate-once-narrow-all-requires : (t : ℕ) → propagate-once-lts.Need-narrow-all-requires (propagate-once-calls t) (propagate-once-at t) propagate-once.Post
-propagate-once-narrow-all-requires t c κs =
-    let p₁ = c .before .before .before .before .before in
-    let p₂ = p₁ .before .before in
-    let s = p₂ .before .before .before .before .before in
-    (omega arith, (and-taken _ _ _ _ (s .pre .1 .0) _ (sym (p₂ .record-in .ensures) ∙ p₁ .m .given .1), s .pre .1 .1, s .pre .1 .2))
+  all-once-requires : in-all all-lts.Need-propagate-once-requires
+  all-once-requires c κs =
+      let p₁ = c .before .before .before .before .before .before .before .before in
+      let p₂ = p₁ .before .before .before .before in
+      let s = p₂ .before .before .before .before .before in
+      let w = some _ _ _ _ _ (s .pre .1 .0) (p₂ .if1 .left) in
+      let k = p₁ .narrow-all .kept .1 .1 .1 .1 .1 .1 .1 in
+      (omega arith, (last _ _ _ _ _ (s .pre .1 .0) (p₂ .if1 .left) _ refl, k .1 .0 ∙ s .pre .1 .1 ∙ sym (k .0), omega (arith, s .pre .1 .2, k .0)))
 
-propagate-once-narrow-all-requires-2 : (t : ℕ) → propagate-once-lts.Need-narrow-all-requires-2 (propagate-once-calls t) (propagate-once-at t) propagate-once.Post
-propagate-once-narrow-all-requires-2 t c κs =
-    let p₁ = c .before .before .before .before .before in
-    let p₂ = p₁ .before .before in
-    let s = p₂ .before .before .before .before .before in
-    (omega arith, (or-taken _ _ _ _ (s .pre .1 .0) _ (sym (p₂ .record-in .ensures) ∙ p₁ .m2 .given .1), s .pre .1 .1, s .pre .1 .2))
+  all-gone-on : in-all all-lts.Need-returns-3
+  all-gone-on c =
+      let p₁ = c .before .before .before .before .before in
+      let p₂ = p₁ .before .before .before in
+      let p₃ = p₂ .before in
+      let p₄ = p₃ .before .before .before .before .before in
+      let p₅ = p₄ .before .before .before .before in
+      let s = p₅ .before .before .before .before .before in
+      all-goes-on _ _ _ _ _ _ (up-to _ _ _ _ _ (s .pre .1 .0) (p₅ .if1 .left) _ refl) (p₄ .narrow-all .ensures) (sym (p₃ .is-conflict .ensures) ∙ p₂ .if2 .left) (p₁ .propagate-once .ensures) (c .worse .ensures)
 
-propagate-once-returns-2 : (t : ℕ) → propagate-once-lts.Need-returns-2 (propagate-once-calls t) (propagate-once-at t) propagate-once.Post
-propagate-once-returns-2 t c =
-    let p₁ = c .before .before .before .before in
-    let p₂ = p₁ .before .before .before in
-    let p₃ = p₂ .before in
-    let p₄ = p₃ .before .before in
-    let p₅ = p₄ .before .before in
-    let s = p₅ .before .before .before .before .before in
-    pass-or-all _ _ _ (at-or _ _ _ _ (s .pre .1 .0) _ (sym (p₅ .record-in .ensures) ∙ p₄ .m2 .given .1)) (sym (p₃ .is-negated2 .ensures) ∙ p₂ .if2 .taken) (p₁ .narrow-all2 .ensures)
+  -- ---- one of several
+  copy-requires : in-any any-lts.Need-new-requires
+  copy-requires c κs = (c .before .before .before .before .before .before .pre .1 .1, c .before .before .before .before .before .before .pre .1 .2)
 
-propagate-once-narrow-any-requires-2 : (t : ℕ) → propagate-once-lts.Need-narrow-any-requires-2 (propagate-once-calls t) (propagate-once-at t) propagate-once.Post
-propagate-once-narrow-any-requires-2 t c κs =
-    let p₁ = c .before .before .before .before .before in
-    let p₂ = p₁ .before .before in
-    let s = p₂ .before .before .before .before .before in
-    (omega arith, (or-taken _ _ _ _ (s .pre .1 .0) _ (sym (p₂ .record-in .ensures) ∙ p₁ .m2 .given .1), s .pre .1 .1, s .pre .1 .2))
+  survivors-requires : in-any any-lts.Need-survivors-of-requires
+  survivors-requires c κs =
+      let s = c .before .before .before .before .before .before .before in
+      (omega arith, (s .pre .1 .0, omega (arith, c .new .ensures .0, s .pre .1 .2)))
 
-propagate-once-returns-3 : (t : ℕ) → propagate-once-lts.Need-returns-3 (propagate-once-calls t) (propagate-once-at t) propagate-once.Post
-propagate-once-returns-3 t c =
-    let p₁ = c .before .before .before .before in
-    let p₂ = p₁ .before .before .before in
-    let p₃ = p₂ .before .before in
-    let p₄ = p₃ .before .before in
-    let s = p₄ .before .before .before .before .before in
-    pass-atom _ _ _ (at-atom _ _ _ _ (s .pre .1 .0) _ _ (sym (p₄ .record-in .ensures) ∙ p₃ .relation .given .1)) (p₂ .relation-in .ensures) (p₁ .narrow-atom .ensures)
+  adopt-requires : in-any any-lts.Need-adopt-survivors-requires
+  adopt-requires c κs =
+      let p₁ = c .before .before in
+      let p₂ = p₁ .before in
+      let s = p₂ .before .before .before .before .before .before .before in
+      let e = p₁ .survivors-of .ensures .0 ∙ p₂ .new .ensures .0 in (omega (arith, e, s .pre .1 .2), sym e, s .pre .1 .1 ∙ sym e)
 
-propagate-once-returns-4 : (t : ℕ) → propagate-once-lts.Need-returns-4 (propagate-once-calls t) (propagate-once-at t) propagate-once.Post
-propagate-once-returns-4 t c =
-    let p₁ = c .before .before .before .before in
-    let p₂ = p₁ .before .before .before in
-    let p₃ = p₂ .before in
-    let p₄ = p₃ .before .before in
-    let s = p₄ .before .before .before .before .before in
-    pass-not _ _ _ (at-not _ _ _ _ (s .pre .1 .0) (sym (p₄ .record-in .ensures) ∙ p₃ .enum-told .given .1)) (p₂ .under-not .ensures) (p₁ .propagate-once .ensures)
+  any-returns : in-any any-lts.Need-returns
+  any-returns c =
+      let p₁ = c .before .before .before .before in
+      let p₂ = p₁ .before .before .before in
+      let p₃ = p₂ .before in
+      let s = p₃ .before .before .before .before .before .before .before in
+      one-of _ _ _ (copied _ _ (s .pre .1 .1) (p₃ .new .ensures .1)) (p₂ .survivors-of .ensures .1) (p₁ .adopt-survivors .ensures)
 
-propagate-once-returns-5 : (t : ℕ) → propagate-once-lts.Need-returns-5 (propagate-once-calls t) (propagate-once-at t) propagate-once.Post
-propagate-once-returns-5 t c =
-    let p₁ = c .before .before .before .before in
-    let p₂ = p₁ .before .before .before in
-    let p₃ = p₂ .before in
-    let p₄ = p₃ .before .before in
-    let p₅ = p₄ .before .before in
-    let s = p₅ .before .before .before .before .before in
-    pass-and-all _ _ _ (at-and _ _ _ _ (s .pre .1 .0) _ (sym (p₅ .record-in .ensures) ∙ p₄ .m .given .1)) (sym (p₃ .is-negated .ensures) ∙ p₂ .if1 .left) (p₁ .narrow-all .ensures)
+  -- ---- a record
+  record-requires : in-once once-lts.Need-record-in-requires
+  record-requires c κs = record-there _ _ _ _ (c .before .before .before .before .pre .1 .0)
 
-propagate-once-returns-6 : (t : ℕ) → propagate-once-lts.Need-returns-6 (propagate-once-calls t) (propagate-once-at t) propagate-once.Post
-propagate-once-returns-6 t c =
-    let p₁ = c .before .before .before .before in
-    let p₂ = p₁ .before .before .before in
-    let p₃ = p₂ .before in
-    let p₄ = p₃ .before .before in
-    let p₅ = p₄ .before .before in
-    let s = p₅ .before .before .before .before .before in
-    pass-or-any _ _ _ (at-or _ _ _ _ (s .pre .1 .0) _ (sym (p₅ .record-in .ensures) ∙ p₄ .m2 .given .1)) (sym (p₃ .is-negated2 .ensures) ∙ p₂ .if2 .left) (p₁ .narrow-any2 .ensures)
+  atom-requires : in-once once-lts.Need-narrow-atom-requires
+  atom-requires c κs =
+      let p₁ = c .before .before .before in
+      let p₂ = p₁ .before .before in
+      let p₃ = p₂ .before in
+      let s = p₃ .before .before .before .before .before in
+      (fine _ _ _ _ (s .pre .1 .0) _ (p₃ .record-in .ensures) (p₂ .step-of .ensures) (p₁ .relation .given .1), s .pre .1 .1)
 
-propagate-once-returns-7 : (t : ℕ) → propagate-once-lts.Need-returns-7 (propagate-once-calls t) (propagate-once-at t) propagate-once.Post
-propagate-once-returns-7 t c =
-    let p₁ = c .before .before in
-    let s = p₁ .before .before .before .before .before in
-    pass-forall _ _ _ (at-forall _ _ _ _ (s .pre .1 .0) _ _ _ (sym (p₁ .record-in .ensures) ∙ c .enum-told2 .given .1))
+  inside-sub : in-once once-lts.Need-sub-propagate-once
+  inside-sub c =
+      let p₁ = c .before in
+      let p₂ = p₁ .before .before in
+      let p₃ = p₂ .before in
+      let s = p₃ .before .before .before .before .before in
+      omega (arith, fine _ _ _ _ (s .pre .1 .0) _ (p₃ .record-in .ensures) (p₂ .step-of .ensures) (p₁ .inner .given .1) .0)
 
-propagate-once-returns-8 : (t : ℕ) → propagate-once-lts.Need-returns-8 (propagate-once-calls t) (propagate-once-at t) propagate-once.Post
-propagate-once-returns-8 t c =
-    let p₁ = c .before .before in
-    let s = p₁ .before .before .before .before .before in
-    pass-exists _ _ _ (at-exists _ _ _ _ (s .pre .1 .0) _ _ _ (sym (p₁ .record-in .ensures) ∙ c .enum-told3 .given .1))
+  inside-requires : in-once once-lts.Need-propagate-once-requires
+  inside-requires c κs =
+      let p₁ = c .before .before .before in
+      let p₂ = p₁ .before .before in
+      let p₃ = p₂ .before in
+      let s = p₃ .before .before .before .before .before in
+      let w = fine _ _ _ _ (s .pre .1 .0) _ (p₃ .record-in .ensures) (p₂ .step-of .ensures) (p₁ .inner .given .1) in (omega arith, (w .1, s .pre .1 .1, s .pre .1 .2))
 
-survivors-of-returns : (t : ℕ) → survivors-of-lts.Need-returns (survivors-of-calls t) (survivors-of-at t) survivors-of.Post
-survivors-of-returns t c =
-    let s = c .before .before .before in
-    (refl, any-none _ _ _ _ (none-taken _ _ _ _ _ (s .pre .1 .0) (c .if1 .taken)))
+  all-requires : in-once once-lts.Need-narrow-all-requires
+  all-requires c κs =
+      let p₁ = c .before .before .before in
+      let p₂ = p₁ .before .before in
+      let p₃ = p₂ .before in
+      let s = p₃ .before .before .before .before .before in
+      (omega arith, (fine _ _ _ _ (s .pre .1 .0) _ (p₃ .record-in .ensures) (p₂ .step-of .ensures) (p₁ .m .given .1), s .pre .1 .1, s .pre .1 .2))
 
-survivors-of-sub-last : (t : ℕ) → survivors-of-lts.Need-sub-last (survivors-of-calls t) (survivors-of-at t) survivors-of.Post
-survivors-of-sub-last t c =
-    let s = c .before .before .before in
-    omega (arith, some _ _ _ _ _ (s .pre .1 .0) (c .if1 .left))
+  any-requires : in-once once-lts.Need-narrow-any-requires
+  any-requires c κs =
+      let p₁ = c .before .before .before in
+      let p₂ = p₁ .before .before in
+      let p₃ = p₂ .before in
+      let s = p₃ .before .before .before .before .before in
+      (omega arith, (fine _ _ _ _ (s .pre .1 .0) _ (p₃ .record-in .ensures) (p₂ .step-of .ensures) (p₁ .m2 .given .1), s .pre .1 .1, s .pre .1 .2))
 
-survivors-of-element-copy-out-s : (t : ℕ) → survivors-of-lts.Need-element-copy-out-s (survivors-of-calls t) (survivors-of-at t) survivors-of.Post
-survivors-of-element-copy-out-s t c =
-    let s = c .before .before .before in
-    omega (arith, some _ _ _ _ _ (s .pre .1 .0) (c .if1 .left), s .pre .1 .0 .ready .few)
+  of-atom : in-once once-lts.Need-returns
+  of-atom c =
+      let p₁ = c .before .before .before .before in
+      let p₂ = p₁ .before .before .before .before in
+      let p₃ = p₂ .before .before in
+      let p₄ = p₃ .before in
+      let s = p₄ .before .before .before .before .before in
+      p₁ .narrow-atom .ensures ∙ does _ _ _ _ (s .pre .1 .0) _ _ _ (p₄ .record-in .ensures) (p₃ .step-of .ensures) (p₂ .relation .given .1)
 
-survivors-of-survivors-of-requires : (t : ℕ) → survivors-of-lts.Need-survivors-of-requires (survivors-of-calls t) (survivors-of-at t) survivors-of.Post
-survivors-of-survivors-of-requires t c κs =
-    let p₁ = c .before in
-    let s = p₁ .before .before .before in
-    let w = start-falls _ _ _ _ _ (s .pre .1 .0) (p₁ .if1 .left) _ refl in (omega arith, (before-last _ _ _ _ _ (s .pre .1 .0) (p₁ .if1 .left) _ refl, s .pre .1 .1))
+  of-inside : in-once once-lts.Need-returns-2
+  of-inside c =
+      let p₁ = c .before .before .before .before in
+      let p₂ = p₁ .before .before .before .before in
+      let p₃ = p₂ .before .before in
+      let p₄ = p₃ .before in
+      let s = p₄ .before .before .before .before .before in
+      p₁ .propagate-once .ensures ∙ does _ _ _ _ (s .pre .1 .0) _ _ _ (p₄ .record-in .ensures) (p₃ .step-of .ensures) (p₂ .inner .given .1)
 
-survivors-of-with-branch-requires : (t : ℕ) → survivors-of-lts.Need-with-branch-requires (survivors-of-calls t) (survivors-of-at t) survivors-of.Post
-survivors-of-with-branch-requires t c κs =
-    let p₁ = c .before .before in
-    let s = p₁ .before .before .before in
-    let w = some _ _ _ _ _ (s .pre .1 .0) (p₁ .if1 .left) in (omega arith, (last _ _ _ _ _ (s .pre .1 .0) (p₁ .if1 .left) _ refl, s .pre .1 .1, c .survivors-of .ensures .0))
+  of-all : in-once once-lts.Need-returns-3
+  of-all c =
+      let p₁ = c .before .before .before .before in
+      let p₂ = p₁ .before .before .before .before in
+      let p₃ = p₂ .before .before in
+      let p₄ = p₃ .before in
+      let s = p₄ .before .before .before .before .before in
+      p₁ .narrow-all .ensures ∙ does _ _ _ _ (s .pre .1 .0) _ _ _ (p₄ .record-in .ensures) (p₃ .step-of .ensures) (p₂ .m .given .1)
 
-survivors-of-returns-2 : (t : ℕ) → survivors-of-lts.Need-returns-2 (survivors-of-calls t) (survivors-of-at t) survivors-of.Post
-survivors-of-returns-2 t c =
-    let p₁ = c .before in
-    let p₂ = p₁ .before .before in
-    let s = p₂ .before .before .before in
-    (c .with-branch .ensures .0, any-more _ _ _ _ _ _ (up-to _ _ _ _ _ (s .pre .1 .0) (p₂ .if1 .left) _ refl) (p₁ .survivors-of .ensures .1) (c .with-branch .ensures .1))
+  of-any : in-once once-lts.Need-returns-4
+  of-any c =
+      let p₁ = c .before .before .before .before in
+      let p₂ = p₁ .before .before .before .before in
+      let p₃ = p₂ .before .before in
+      let p₄ = p₃ .before in
+      let s = p₄ .before .before .before .before .before in
+      p₁ .narrow-any .ensures ∙ does _ _ _ _ (s .pre .1 .0) _ _ _ (p₄ .record-in .ensures) (p₃ .step-of .ensures) (p₂ .m2 .given .1)
 
--- the two arrays of the copy have 16 places
-with-branch-lows : (t : ℕ) (s : with-branch-lts.Start (with-branch-calls t) (with-branch-at t) with-branch.Post) → length (s .args .boxes .lo) ≡ 16
-with-branch-lows t s = length-unmapped Float (s .args .boxes .lo) 16 (s .good .1 .1 .1 .1 .1 .1 .0 .1 .1 .0 .1 .0 .1)
+  of-nothing : in-once once-lts.Need-returns-5
+  of-nothing c =
+      let p₁ = c .before .before in
+      let p₂ = p₁ .before in
+      let s = p₂ .before .before .before .before .before in
+      does _ _ _ _ (s .pre .1 .0) _ _ _ (p₂ .record-in .ensures) (p₁ .step-of .ensures) (c .enum-told .given .1)
 
-with-branch-highs : (t : ℕ) (s : with-branch-lts.Start (with-branch-calls t) (with-branch-at t) with-branch.Post) → length (s .args .boxes .hi) ≡ 16
-with-branch-highs t s = length-unmapped Float (s .args .boxes .hi) 16 (s .good .1 .1 .1 .1 .1 .1 .0 .1 .1 .1 .0 .1 .0 .1)
+  -- ---- the survivors of several
+  none-survive : in-survivors survivors-of-lts.Need-returns
+  none-survive c = (refl, any-none _ _ _ _ (none-taken _ _ _ _ _ (c .before .before .before .pre .1 .0) (c .if1 .taken)))
 
-with-branch-array-borrow-prefix-lo : (t : ℕ) → with-branch-lts.Need-array-borrow-prefix-lo (with-branch-calls t) (with-branch-at t) with-branch.Post
-with-branch-array-borrow-prefix-lo t c =
-    let s = c .before .before .before .before in
-    omega (arith, s .pre .1 .1, with-branch-lows t s)
+  survivors-sub : in-survivors survivors-of-lts.Need-sub-last
+  survivors-sub c = omega (arith, some _ _ _ _ _ (c .before .before .before .pre .1 .0) (c .if1 .left))
 
-with-branch-slice-aggregate-propagate-once : (t : ℕ) → with-branch-lts.Need-slice-aggregate-propagate-once (with-branch-calls t) (with-branch-at t) with-branch.Post
-with-branch-slice-aggregate-propagate-once t c =
-    let s = c .before .before .before .before .before in
-    sym (length-take-le _ _ (omega (arith, s .pre .1 .1, with-branch-lows t s)))
+  survivors-start : in-survivors survivors-of-lts.Need-element-copy-out-s
+  survivors-start c = omega (arith, some _ _ _ _ _ (c .before .before .before .pre .1 .0) (c .if1 .left), c .before .before .before .pre .1 .0 .ready .few)
 
-with-branch-array-borrow-prefix-hi : (t : ℕ) → with-branch-lts.Need-array-borrow-prefix-hi (with-branch-calls t) (with-branch-at t) with-branch.Post
-with-branch-array-borrow-prefix-hi t c =
-    let s = c .before .before .before .before .before in
-    omega (arith, s .pre .1 .1, with-branch-highs t s)
+  survivors-before-requires : in-survivors survivors-of-lts.Need-survivors-of-requires
+  survivors-before-requires c κs =
+      let p₁ = c .before in
+      let s = p₁ .before .before .before in
+      let w = start-falls _ _ _ _ _ (s .pre .1 .0) (p₁ .if1 .left) _ refl in (omega arith, (before-last _ _ _ _ _ (s .pre .1 .0) (p₁ .if1 .left) _ refl, s .pre .1 .1))
 
-with-branch-slice-aggregate-propagate-once-2 : (t : ℕ) → with-branch-lts.Need-slice-aggregate-propagate-once-2 (with-branch-calls t) (with-branch-at t) with-branch.Post
-with-branch-slice-aggregate-propagate-once-2 t c =
-    let s = c .before .before .before .before .before .before in
-    sym (length-take-le _ _ (omega (arith, s .pre .1 .1, with-branch-highs t s)))
+  branch-requires : in-survivors survivors-of-lts.Need-with-branch-requires
+  branch-requires c κs =
+      let p₁ = c .before .before in
+      let s = p₁ .before .before .before in
+      let w = some _ _ _ _ _ (s .pre .1 .0) (p₁ .if1 .left) in (omega arith, (last _ _ _ _ _ (s .pre .1 .0) (p₁ .if1 .left) _ refl, s .pre .1 .1, c .survivors-of .ensures .0))
 
-with-branch-propagate-once-requires : (t : ℕ) → with-branch-lts.Need-propagate-once-requires (with-branch-calls t) (with-branch-at t) with-branch.Post
-with-branch-propagate-once-requires t c κs =
-    let s = c .before .before .before .before .before .before in
-    let a = length-take-le (s .args .boxes .count) (s .args .boxes .lo) (omega (arith, s .pre .1 .1, with-branch-lows t s)) in let b = length-take-le (s .args .boxes .count) (s .args .boxes .hi) (omega (arith, s .pre .1 .1, with-branch-highs t s)) in (omega arith, (s .pre .1 .0, b ∙ sym a, omega (arith, a, s .pre .1 .1)))
+  one-more : in-survivors survivors-of-lts.Need-returns-2
+  one-more c =
+      let p₁ = c .before in
+      let p₂ = p₁ .before .before in
+      let s = p₂ .before .before .before in
+      (c .with-branch .ensures .0, any-more _ _ _ _ _ _ (up-to _ _ _ _ _ (s .pre .1 .0) (p₂ .if1 .left) _ refl) (p₁ .survivors-of .ensures .1) (c .with-branch .ensures .1))
 
-with-branch-survive-requires : (t : ℕ) → with-branch-lts.Need-survive-requires (with-branch-calls t) (with-branch-at t) with-branch.Post
-with-branch-survive-requires t c κs =
-    let s = c .before .before .before .before .before .before .before .before .before in
-    (omega (arith, s .pre .1 .1, s .pre .1 .2), sym (s .pre .1 .2))
-
-with-branch-returns : (t : ℕ) → with-branch-lts.Need-returns (with-branch-calls t) (with-branch-at t) with-branch.Post
-unfolding boxesOf
-with-branch-returns t c =
-    let p₁ = c .before .before .before in
-    let s = p₁ .before .before .before .before .before .before .before in
-    let a = length-take-le (s .args .boxes .count) (s .args .boxes .lo) (omega (arith, s .pre .1 .1, with-branch-lows t s)) in let b = length-take-le (s .args .boxes .count) (s .args .boxes .hi) (omega (arith, s .pre .1 .1, with-branch-highs t s)) in (c .survive .ensures .0 ∙ s .pre .1 .2, branch-is _ _ _ _ (p₁ .propagate-once .last .1 .1 .1 .1 .1 .1 .0) (p₁ .propagate-once .last .1 .1 .1 .1 .1 .1 .1 .0) (drop (s .args .boxes .count) (s .args .boxes .lo)) (drop (s .args .boxes .count) (s .args .boxes .hi)) (s .args .boxes .count) (p₁ .propagate-once .kept .1 .1 .1 .1 .1 .1 .0 ∙ a) (p₁ .propagate-once .kept .1 .1 .1 .1 .1 .1 .1 .0 ∙ b) (boxesOf (s .args .boxes)) (survivorsOf (s .args .before)) (p₁ .propagate-once .ensures) (c .survive .ensures .1))
-
-pub +narrow-all+narrow-any+propagate-once+survivors-of+with-branch-spec :
-    {M : Type 1} → statement M
+pub +narrow-all+narrow-any+propagate-once+survivors-of+with-branch-spec : {M : Type 1} → statement M
 +narrow-all+narrow-any+propagate-once+survivors-of+with-branch-spec =
-    close
-    μ-narrow-all
-    μ-narrow-any
-    μ-propagate-once
-    μ-survivors-of
-    μ-with-branch
-    (λ t. narrow-all-lts.spec (narrow-all-calls t) (narrow-all-at t) narrow-all.Post
-    (narrow-all-returns t)
-    (narrow-all-sub-last t)
+    close μ-all μ-any μ-once μ-survivors μ-branch
+    (λ t. all-lts.spec (all-calls t) (all-at t) all.Post
+    (all-returns t)
+    (all-sub t)
     (λ c. search needs)
-    (narrow-all-element-copy-out-s t)
+    (all-start t)
     (λ c. omega arith)
-    (narrow-all-narrow-all-requires t)
+    (all-before-requires t)
     (λ c κs. search needs)
     (λ c. search needs)
     (λ c. search needs)
-    (narrow-all-returns-2 t)
-    (narrow-all-propagate-once-requires t)
+    (all-stopped t)
+    (all-once-requires t)
     (λ c κs. search needs)
     (λ c. search needs)
     (λ c. search needs)
-    (narrow-all-returns-3 t))
-    (λ t. narrow-any-lts.spec (narrow-any-calls t) (narrow-any-at t) narrow-any.Post
-    (narrow-any-new-requires t)
-    (narrow-any-survivors-of-requires t)
-    (narrow-any-adopt-survivors-requires t)
+    (all-gone-on t))
+    (λ t. any-lts.spec (any-calls t) (any-at t) any.Post
+    (copy-requires t)
+    (survivors-requires t)
+    (adopt-requires t)
     (λ c. search needs)
     (λ c. search needs)
-    (narrow-any-returns t))
-    (λ t. propagate-once-lts.spec (propagate-once-calls t) (propagate-once-at t) propagate-once.Post
-    (propagate-once-record-in-requires t)
-    (λ c. search needs)
+    (any-returns t))
+    (λ t. once-lts.spec (once-calls t) (once-at t) once.Post
+    (record-requires t)
     (λ c κs. search needs)
-    (propagate-once-narrow-atom-requires t)
     (λ c. search needs)
-    (λ c κs. search needs)
-    (propagate-once-sub-propagate-once t)
-    (propagate-once-propagate-once-requires t)
+    (atom-requires t)
     (λ c. search needs)
-    (λ c κs. search needs)
-    (propagate-once-narrow-any-requires t)
+    (inside-sub t)
+    (inside-requires t)
     (λ c. search needs)
+    (all-requires t)
     (λ c. search needs)
-    (propagate-once-returns t)
-    (propagate-once-narrow-all-requires t)
-    (λ c. search needs)
-    (λ c κs. search needs)
-    (propagate-once-narrow-all-requires-2 t)
-    (λ c. search needs)
-    (λ c. search needs)
-    (propagate-once-returns-2 t)
-    (propagate-once-narrow-any-requires-2 t)
+    (any-requires t)
     (λ c. search needs)
     (λ c. search needs)
     (λ c. search needs)
-    (λ c. search needs)
-    (propagate-once-returns-3 t)
-    (λ c. search needs)
-    (λ c. search needs)
-    (propagate-once-returns-4 t)
+    (of-atom t)
     (λ c. search needs)
     (λ c. search needs)
-    (propagate-once-returns-5 t)
+    (of-inside t)
     (λ c. search needs)
     (λ c. search needs)
-    (propagate-once-returns-6 t)
-    (propagate-once-returns-7 t)
-    (propagate-once-returns-8 t))
-    (λ t. survivors-of-lts.spec (survivors-of-calls t) (survivors-of-at t) survivors-of.Post
-    (survivors-of-returns t)
-    (survivors-of-sub-last t)
+    (of-all t)
     (λ c. search needs)
-    (survivors-of-element-copy-out-s t)
+    (λ c. search needs)
+    (of-any t)
+    (of-nothing t))
+    (λ t. survivors-of-lts.spec (survivors-calls t) (survivors-at t) survivors.Post
+    (none-survive t)
+    (survivors-sub t)
+    (λ c. search needs)
+    (survivors-start t)
     (λ c. omega arith)
-    (survivors-of-survivors-of-requires t)
-    (survivors-of-with-branch-requires t)
-    (survivors-of-returns-2 t))
-    λ t. with-branch-lts.spec
-    (propagate-once-below t, propagate-once.Post, survive-reads.Asked, survive-reads.Learnt)
-    (with-branch-at t)
-    with-branch.Post
-    (with-branch-array-borrow-prefix-lo t)
-    (with-branch-slice-aggregate-propagate-once t)
-    (with-branch-array-borrow-prefix-hi t)
-    (with-branch-slice-aggregate-propagate-once-2 t)
-    (with-branch-propagate-once-requires t)
-    (with-branch-survive-requires t)
-    (with-branch-returns t)
+    (survivors-before-requires t)
+    (branch-requires t)
+    (one-more t))
+    λ t. with-branch-lts.spec (branch-calls t) (branch-at t) branch.Post
+    (lo-borrowed t)
+    (lo-sized t)
+    (hi-borrowed t)
+    (hi-sized t)
+    (branch-once-requires t)
+    (survive-requires t)
+    (branch-returns t)

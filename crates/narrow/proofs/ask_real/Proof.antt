@@ -23,7 +23,8 @@ returns-2 c =
     let p₆ = p₅ .before in
     let p₇ = p₆ .before in
     let s = p₇ .before in
-    left-empty _ _ _ (s .pre .0) (s .pre .1) (p₇ .minus .ensures) (p₆ .intersect .ensures) (sym (p₅ .is-empty .ensures) ∙ p₄ .if1 .left) (p₃ .plus .ensures) (p₂ .intersect2 .ensures) (sym (p₁ .is-empty2 .ensures) ∙ c .if2 .taken)
+    left-empty _ _ _ (s .pre .0) (s .pre .1) (p₇ .minus .ensures) (p₆ .intersect .ensures) (sym (p₅ .is-empty .ensures) ∙ p₄ .if1 .left) (p₃ .plus .ensures) (p₂ .intersect2 .ensures)
+    (sym (p₁ .is-empty2 .ensures) ∙ c .if2 .taken)
 
 returns-3 : tie.Need-returns-3
 returns-3 c =
@@ -39,7 +40,8 @@ returns-3 c =
     let p₁₀ = p₉ .before in
     let p₁₁ = p₁₀ .before in
     let s = p₁₁ .before in
-    right-empty _ _ _ (s .pre .0) (s .pre .1) (p₁₁ .minus .ensures) (p₁₀ .intersect .ensures) (sym (p₉ .is-empty .ensures) ∙ p₈ .if1 .left) (p₇ .plus .ensures) (p₆ .intersect2 .ensures) (sym (p₅ .is-empty2 .ensures) ∙ p₄ .if2 .left) (p₃ .minus2 .ensures) (p₂ .intersect3 .ensures) (sym (p₁ .is-empty3 .ensures) ∙ c .if3 .taken)
+    right-empty _ _ _ (s .pre .0) (s .pre .1) (p₁₁ .minus .ensures) (p₁₀ .intersect .ensures) (sym (p₉ .is-empty .ensures) ∙ p₈ .if1 .left) (p₇ .plus .ensures) (p₆ .intersect2 .ensures)
+    (sym (p₅ .is-empty2 .ensures) ∙ p₄ .if2 .left) (p₃ .minus2 .ensures) (p₂ .intersect3 .ensures) (sym (p₁ .is-empty3 .ensures) ∙ c .if3 .taken)
 
 returns-4 : tie.Need-returns-4
 returns-4 c =
@@ -58,7 +60,9 @@ returns-4 c =
     let p₁₃ = p₁₂ .before in
     let p₁₄ = p₁₃ .before in
     let s = p₁₄ .before in
-    asked _ _ _ (s .pre .0) (s .pre .1) (p₁₄ .minus .ensures) (p₁₃ .intersect .ensures) (sym (p₁₂ .is-empty .ensures) ∙ p₁₁ .if1 .left) (p₁₀ .plus .ensures) (p₉ .intersect2 .ensures) (sym (p₈ .is-empty2 .ensures) ∙ p₇ .if2 .left) (p₆ .minus2 .ensures) (p₅ .intersect3 .ensures) (sym (p₄ .is-empty3 .ensures) ∙ p₃ .if3 .left) (p₂ .left-of .ensures) (p₁ .ln-inv .ensures) (c .intersect4 .ensures)
+    asked _ _ _ (s .pre .0) (s .pre .1) (p₁₄ .minus .ensures) (p₁₃ .intersect .ensures) (sym (p₁₂ .is-empty .ensures) ∙ p₁₁ .if1 .left) (p₁₀ .plus .ensures) (p₉ .intersect2 .ensures)
+    (sym (p₈ .is-empty2 .ensures) ∙ p₇ .if2 .left) (p₆ .minus2 .ensures) (p₅ .intersect3 .ensures) (sym (p₄ .is-empty3 .ensures) ∙ p₃ .if3 .left) (p₂ .left-of .ensures) (p₁ .ln-inv .ensures)
+    (c .intersect4 .ensures)
 
 pub ask-real-spec : {M : Type 1} → statement M
 ask-real-spec =

@@ -16,7 +16,12 @@ abbrev μ-loop : tie.MeasureT-loop
 μ-loop a b out₀ n i₀ out i = n - i
 
 loop-holds : tie.Need-loop-holds Inv-loop μ-loop
-loop-holds c = let l : length (c .args .t1 .lo) ≡ 16 = search needs in let h : length (c .args .t1 .hi) ≡ 16 = search needs in let m : length (c .args .t2 .lo) ≡ 16 = search needs in let k : length (c .args .t2 .hi) ≡ 16 = search needs in record { few = c .pre .0; as-many = c .pre .1; count = refl; room = (l, h, m, k); lows = l; highs = h; before = omega arith; done = refl }
+loop-holds c =
+    let l : length (c .args .t1 .lo) ≡ 16 = search needs in
+    let h : length (c .args .t1 .hi) ≡ 16 = search needs in
+    let m : length (c .args .t2 .lo) ≡ 16 = search needs in
+    let k : length (c .args .t2 .hi) ≡ 16 = search needs in
+    record { few = c .pre .0; as-many = c .pre .1; count = refl; room = (l, h, m, k); lows = l; highs = h; before = omega arith; done = refl }
 
 loop-again : tie.Need-loop-again Inv-loop μ-loop
 loop-again c =

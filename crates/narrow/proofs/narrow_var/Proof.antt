@@ -15,7 +15,16 @@ returns : tie.Need-returns
 returns c = var-empty _ _ _ _ (c .before .before .before .box-at .ensures) (c .before .before .intersect .ensures) (sym (c .before .is-empty .ensures) ∙ c .if1 .taken)
 
 returns-2 : tie.Need-returns-2
-returns-2 c = var-moves _ _ _ _ (c .before .before .before .before .before .before .box-at .ensures) (c .before .before .before .before .before .intersect .ensures) (sym (c .before .before .before .before .is-empty .ensures) ∙ c .before .before .before .if1 .left) (sym (c .before .before .moves .ensures) ∙ c .before .if2 .taken) _ (sym (set-out (intervals _ _) _ _ (omega (arith, c .if3 .taken, intervals-short (now (c .before .before .before .before .before .before .before .before .before .before .before .args .lo)) (now (c .before .before .before .before .before .before .before .before .before .before .before .args .hi))))))
+returns-2 c =
+    let p₁ = c .before in
+    let p₂ = p₁ .before in
+    let p₃ = p₂ .before in
+    let p₄ = p₃ .before in
+    let p₅ = p₄ .before in
+    let p₆ = p₅ .before in
+    let s = p₆ .before .before .before .before .before in
+    var-moves _ _ _ _ (p₆ .box-at .ensures) (p₅ .intersect .ensures) (sym (p₄ .is-empty .ensures) ∙ p₃ .if1 .left) (sym (p₂ .moves .ensures) ∙ p₁ .if2 .taken) _
+    (sym (set-out (intervals _ _) _ _ (omega (arith, c .if3 .taken, intervals-short (now (s .args .lo)) (now (s .args .hi))))))
 
 returns-3 : tie.Need-returns-3
 returns-3 c =

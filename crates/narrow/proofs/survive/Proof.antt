@@ -5,7 +5,6 @@ use Rattle.narrow.proofs.survive.Tie as tie
 use mathlib.Core.Path.{refl, sym, ap, _∙_}
 use mathlib.Core.Option.{some}
 use Rattle.narrow.proofs.Branches.{branch-lost, branch-first, branch-joins}
-use Rattle.interval.specs.Interval.{hull}
 use Rattle.interval.specs.Boxes.{boxesOf}
 
 returns : tie.Need-returns
