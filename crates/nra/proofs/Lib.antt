@@ -1,7 +1,5 @@
-pub mod Loops
-pub mod Halving
+pub mod Halves
 pub mod Steps
 pub mod Answering
 pub mod Tests
 pub mod Calling
-pub mod Sampling

@@ -6,16 +6,16 @@ use mathlib.Core.List.{List}
 use native.Mathlib.Nat.{le-antisymm}
 use native.Mathlib.Numerals.{add-one}
 use native.Mathlib.Omega.{arith}
-use borrow.Author.Tests.{eqb-true}
+use borrow.Author.Tests.{eqb-true, leb-true}
 use lib.Dec.{leb, eqb}
-use lib.Ieee.{Float, ne}
+use lib.Ieee.{Float, ne, isNan}
 use lib.ListN.{length, set, take}
 use lib.Seq.{take-suc-set, take-all}
 use Rattle.number.specs.Order.{nan-test}
-use Rattle.tree.specs.RefusalLaws.{both}
+use Rattle.record.specs.RefusalLaws.{both, none-unless}
 use Rattle.interval.specs.declared.Interval.{Interval}
-use Rattle.interval.specs.Boxes.{intervals, allSound, areBoxes}
-use Rattle.interval.specs.BoxLaws.{first-length, first-set}
+use Rattle.interval.specs.Boxes.{intervals, starting, allSound, areBoxes}
+use Rattle.interval.specs.BoxLaws.{intervals-length, first-length, first-set, starting-all}
 use Rattle.file.specs.File.{boundAt, bounds}
 use Rattle.nra.specs.Calls.{limitRefusal}
 
@@ -29,13 +29,25 @@ module _ (limit : ℕ) (ε : Float) where
   unfolding limitRefusal
   beyond-limit e = rw (nan-test ε, e)
 
+  pub limit-few : limitRefusal limit ε ≡ 0 → limit ≤ 1_000_000
+  unfolding limitRefusal
+  limit-few e = leb-true limit 1_000_000 (both (leb limit 1_000_000) (not (isNan ε)) (none-unless 7 (leb limit 1_000_000 && not (isNan ε)) e) .0)
+
 -- ---- boxes
-pub as-many : (lo hi : List Float) → areBoxes lo hi ≡ true → length hi ≡ length lo
-unfolding areBoxes
-as-many lo hi e =
-    let paired = eqb (length lo) (length hi) in
-    let few = leb (length lo) 16 in
-    sym (eqb-true _ _ (both paired few (both (paired && few) (allSound (intervals lo hi)) e .0) .0))
+-- two lists that are boxes, by value
+module _ (lo hi : List Float) (e : areBoxes lo hi ≡ true) where
+  paired : (eqb (length lo) (length hi) ≡ true) × (leb (length lo) 16 ≡ true)
+  unfolding areBoxes
+  paired = both _ _ (both (eqb (length lo) (length hi) && leb (length lo) 16) (allSound (intervals lo hi)) e .0)
+
+  pub as-many : length hi ≡ length lo
+  as-many = sym (eqb-true _ _ (paired .0))
+
+  pub few : length lo ≤ 16
+  few = leb-true _ _ (paired .1)
+
+  pub all-there : {b : List Interval} → b ≡ starting (length lo) (intervals lo hi) → b ≡ intervals lo hi
+  all-there q = q ∙ ap (λ (n : ℕ). starting n (intervals lo hi)) (sym (intervals-length lo hi as-many)) ∙ starting-all (intervals lo hi)
 
 -- ---- the bounds of a file
 module _ (n i : ℕ) (lo hi : List Float) (p : length lo ≡ 16) (q : length hi ≡ 16) (h : n ≤ 16) where

@@ -1,34 +1,64 @@
--- What the calls give back, as the code has it: where a run stands, and an answer.
-use Prim.Native.Nat.{ℕ, zero, suc, _-_}
+-- What the code holds and gives back: where a run stands, and an answer.
+use Prim.Native.Nat.{ℕ, zero, suc, _<_, _≤_}
+use mathlib.Core.Path.{_≡_}
 use mathlib.Core.Bool.{Bool, true, false}
-use mathlib.Core.List.{List, [], _++_}
-use lib.ListN.{length, replicate}
+use mathlib.Core.List.{List, []}
+use denote.Ref.{RefT}
+use denote.Triple.Both.{Both}
+use lib.ListN.{length}
 use lib.Ieee.{Float}
 use Rattle.number.specs.Notation.{whole, +∞}
+use Rattle.settings.specs.declared.Settings.{Settings}
 use Rattle.interval.specs.declared.Interval.{Interval}
+use Rattle.interval.specs.declared.Boxes.{Boxes}
+use Rattle.interval.specs.Boxes.{boxesOf, midpoints, padded}
 use Rattle.constraint.specs.Constraint.{Constraint}
-use Rattle.nra.specs.declared.Step.{Step}
-use Rattle.nra.specs.declared.Stop as Word
-use Rattle.nra.specs.declared.Solved.{Solved}
-use Rattle.nra.specs.Solver.{Problem, Stop, conflict, tolerance, limit, unsatisfied, Answer, assignment, failed, Progress, Stopped, Going, midpoints, untried}
+use Rattle.constraint.specs.Views.{the}
+use Rattle.nra.specs.declared.halving.Task.{Task}
+use Rattle.nra.specs.declared.run.Step.{Step}
+use Rattle.nra.specs.declared.run.Run.{Run}
+use Rattle.nra.specs.declared.answer.Stop as Word
+use Rattle.nra.specs.declared.answer.Solved.{Solved}
+use Rattle.nra.specs.Solver.{Problem, Stop, conflict, tolerance, limit, unsatisfied, Answer, assignment, failed, State, Progress, Stopped, Going, beginIn, run, untried}
 
-abbrev pub problem : Constraint → List Interval → Float → Problem
-problem c bounds ε = record { constraint = c; bounds = bounds; tolerance = ε }
+abbrev pub problem : Constraint → Float → Problem
+problem c ε = record { constraint = c; tolerance = ε }
 
--- ---- where a run stands, with its boxes and its halvings
-unfoldable pub progressOf : Step → List Interval → ℕ → Progress
-progressOf Step.Going b h = Going (record { boxes = b; halvings = h })
-progressOf (Step.Passed exact) b h = Stopped (assignment (midpoints b) exact h)
-progressOf Step.Conflict b h = Stopped (failed conflict +∞ h)
-progressOf (Step.Tolerance r) b h = Stopped (failed tolerance r h)
-progressOf (Step.Limit r) b h = Stopped (failed limit r h)
+-- what a task asks of lent records
+abbrev pub asked : {X Y : Type 0} → Both (RefT (List ℕ)) X → Both (RefT (List ℕ)) Y → Task → Problem
+asked nodes constraints task = problem (the nodes constraints (task .root)) (task .tolerance)
+
+-- ---- where a run stands
+abbrev pub standing : Step → List Interval → ℕ → Progress
+standing Step.Going b h = Going (record { boxes = b; halvings = h })
+standing (Step.Passed exact) b h = Stopped (assignment (midpoints b) exact h)
+standing Step.Conflict b h = Stopped (failed conflict +∞ h)
+standing (Step.Tolerance r) b h = Stopped (failed tolerance r h)
+
+unfoldable pub progressOf : Run → Progress
+progressOf r = standing (r .step) (boxesOf (r .boxes)) (r .halvings)
 
 abbrev pub goes : Step → Bool
 goes Step.Going = true
 goes (Step.Passed exact) = false
 goes Step.Conflict = false
 goes (Step.Tolerance r) = false
-goes (Step.Limit r) = false
+
+-- its boxes and halvings, from which it goes on
+abbrev pub stateOf : Run → State
+stateOf r = record { boxes = boxesOf (r .boxes); halvings = r .halvings }
+
+-- n boxes and h halvings, standing at g
+pub record At (r : Run) (n h : ℕ) (g : Progress) : Type 0 where
+  pub many : r .boxes .count ≡ n
+  pub counted : r .halvings ≡ h
+  pub stands : progressOf r ≡ g
+
+-- what the steps work on: 1 to 16 boxes, and room for the postorder of any accepted tree
+pub record Working (b : Boxes) (order : List ℕ) : Type 0 where
+  pub some : 0 < b .count
+  pub few : b .count ≤ 16
+  pub long : 4096 ≤ length order
 
 -- ---- an answer
 
@@ -46,10 +76,6 @@ stopNumber Word.Stop.Conflict = 1
 stopNumber Word.Stop.Tolerance = 2
 stopNumber Word.Stop.Limit = 3
 stopNumber Word.Stop.Unsatisfied = 4
-
--- a point has 16 places; those past its values are 0
-unfoldable pub padded : List Float → List Float
-padded m = m ++ replicate (16 - length m) (whole 0)
 
 -- an answer without a point
 abbrev pub pointless : ℕ → Word.Stop → Float → ℕ → Solved
@@ -70,3 +96,7 @@ refusedWith n = pointless n Word.Stop.Unsatisfied (whole 0) 0
 unfoldable pub tried : ℕ → Answer → Answer
 tried zero a = untried 1 a
 tried (suc n) a = a
+
+-- a whole run in these boxes
+abbrev pub triedIn : Settings → Problem → ℕ → List Interval → Answer
+triedIn σ p n b = tried n (run σ p n (beginIn σ p b))

@@ -1,16 +1,17 @@
--- The calls on a file and on records with bounds (document 01, "Refused"): the refusals in their order, then the answer under document 01's settings.
+-- The calls on a file and on records with bounds (document 01, "Refused"): the refusals in their order, then the answer.
+-- σ are the settings; document 01's calls have `usual`.
 use Prim.Native.Nat.{ℕ, zero, suc}
 use mathlib.Core.Bool.{not, _&&_}
 use mathlib.Core.List.{List}
 use lib.Dec.{leb}
 use lib.Ieee.{Float, isNan}
-use Rattle.tree.specs.Refusal.{_or-else_, _unless_}
-use Rattle.settings.specs.Settings.{usual}
+use Rattle.record.specs.Refusal.{_or-else_, _unless_}
+use Rattle.settings.specs.declared.Settings.{Settings}
 use Rattle.interval.specs.declared.Interval.{Interval}
 use Rattle.interval.specs.Boxes.{intervals, areBoxes}
 use Rattle.constraint.specs.Constraint.{Constraint}
 use Rattle.file.specs.File.{Read, Refused, Accepted, readFile, readGiven}
-use Rattle.nra.specs.declared.Solved.{Solved}
+use Rattle.nra.specs.declared.answer.Solved.{Solved}
 use Rattle.nra.specs.Solver.{Answer, solve}
 use Rattle.nra.specs.Answers.{problem, solvedOf, refusedWith}
 
@@ -32,9 +33,9 @@ abbrev pub answeredBy : Read → ℕ → (Constraint → List Interval → Answe
 answeredBy (Refused r) later answer = refusedWith r
 answeredBy (Accepted c bounds) later answer = unlessRefused later (answer c bounds)
 
-unfoldable pub solveFile : List ℕ → ℕ → Float → Solved
-solveFile file limit ε = answeredBy (readFile file) (limitRefusal limit ε) λ c bounds. solve usual (problem c bounds ε) limit
+unfoldable pub solveFile : Settings → List ℕ → ℕ → Float → Solved
+solveFile σ file limit ε = answeredBy (readFile file) (limitRefusal limit ε) λ c bounds. solve σ (problem c ε) bounds limit
 
-unfoldable pub solveGiven : List ℕ → List ℕ → List Float → List Float → ℕ → Float → Solved
-solveGiven nodes b lo hi limit ε =
-    answeredBy (readGiven nodes b) (limitRefusal limit ε or-else boxesRefusal lo hi) λ c none. solve usual (problem c (intervals lo hi) ε) limit
+unfoldable pub solveGiven : Settings → List ℕ → List ℕ → List Float → List Float → ℕ → Float → Solved
+solveGiven σ nodes b lo hi limit ε =
+    answeredBy (readGiven nodes b) (limitRefusal limit ε or-else boxesRefusal lo hi) λ c none. solve σ (problem c ε) (intervals lo hi) limit

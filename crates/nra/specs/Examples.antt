@@ -1,161 +1,32 @@
--- The starred examples of document 01, "Conditions of acceptance", in its order, as one table; those of a limit of 0 and 1; and decisions.
--- Assumes nothing.
+-- Values that the checker computes from the definitions: document 01's example of limits 0 and 1, and the printing program's. Assumes nothing.
 use mathlib.Core.Path.{_≡_, refl}
-use Prim.Native.Nat.{_^_}
+use Prim.Native.Nat.{ℕ, _^_}
 use mathlib.Core.Bool.{true, false}
 use mathlib.Core.List.{[], _∷_}
-use lib.Ieee.{Float, neg}
-use Rattle.number.specs.Notation.{bits, whole, decimal, +∞}
+use Rattle.number.specs.Notation.{whole, decimal}
 use Rattle.settings.specs.Settings.{usual}
 use Rattle.interval.specs.declared.Interval.{Interval}
 use Rattle.interval.specs.Interval.{_‥_}
 use Rattle.tree.specs.Tree.{Tree}
-use Rattle.constraint.specs.declared.Relation.{Relation}
-use Rattle.constraint.specs.declared.Relation.the-variants.{EqZero, GtZero, GeZero, NeZero}
-use Rattle.constraint.specs.Constraint.{Constraint, Atom, Not, And, Or, ForAll, end, _⨾_}
-use Rattle.normal.specs.NormalForm.{toNnf}
-use Rattle.point.specs.declared.eval.EvalError.the-variants.{ComplexResult}
-use Rattle.point.specs.declared.eval.Evaluated.the-variants.{Value, Failed}
-use Rattle.point.specs.Eval.{evalReal}
-use Rattle.point.specs.Check.{check}
-use Rattle.narrow.specs.declared.PropResult.the-variants.{Changed, Stable, Conflict}
-use Rattle.narrow.specs.Narrowing.{Narrowed, _leaving_, propagate}
-use Rattle.nra.specs.Solver.{Problem, limit, unsatisfied, assignment, failed, Progress, Stopped, Going, begin, halve, solve}
+use Rattle.constraint.specs.declared.Relation.the-variants.{GtZero}
+use Rattle.constraint.specs.Constraint.{Atom}
+use Rattle.nra.specs.Solver.{Answer, assignment, solve}
 use Rattle.nra.specs.Answers.{problem}
-use Rattle.nra.specs.Deciding.{QuantResult, True, TrueWithWitness, FalseWithCounterexample, Unknown, decideForall, decideExists}
 use Rattle.nra.specs.Computing.{computing}
 
--- narrowing by one constraint in one box
-abbrev narrow : Constraint → Interval → Narrowed
-narrow c i = propagate usual c (i ∷ [])
+-- GtZero of variable 0, tolerance 1e-8
+abbrev positive : Interval → ℕ → Answer
+positive i limit = solve usual (problem (Atom GtZero (Tree.Var 0)) (decimal 1 (10 ^ 8))) (i ∷ []) limit
 
-abbrev is : Relation → Constraint
-is rel = Atom rel (Tree.Var 0)
-
--- Eml(Const 0, One) and Eml(Const 0, Const -1)
-abbrev exp0 : Tree
-exp0 = Tree.Eml (Tree.Const (whole 0)) Tree.One
-
-abbrev lnNegative : Tree
-lnNegative = Tree.Eml (Tree.Const (whole 0)) (Tree.Const (neg (whole 1)))
-
--- with no bounds, and with one; tolerance 1e-8
-abbrev alone : Constraint → Problem
-alone c = problem c [] (decimal 1 (10 ^ 8))
-
-abbrev within : Constraint → Interval → Problem
-within c i = problem c (i ∷ []) (decimal 1 (10 ^ 8))
-
-abbrev never : Problem
-never = within (ForAll 0 (whole 0) (whole 1) (Atom EqZero Tree.One)) (whole 0 ‥ whole 8)
-
--- the boxes after one halving
-abbrev afterOne : Progress → Progress
-afterOne (Stopped a) = Stopped a
-afterOne (Going s) = halve usual never s
-
-pub record Starred : Type 0 where
-  -- GtZero [-3,-1] Conflict; [0,0] Conflict; GeZero [0,0] Stable
-  pub gt-negative : narrow (is GtZero) (neg (whole 3) ‥ neg (whole 1)) ≡ Conflict leaving (neg (whole 3) ‥ neg (whole 1)) ∷ []
-  pub gt-zero : narrow (is GtZero) (whole 0 ‥ whole 0) ≡ Conflict leaving (whole 0 ‥ whole 0) ∷ []
-  pub ge-zero : narrow (is GeZero) (whole 0 ‥ whole 0) ≡ Stable leaving (whole 0 ‥ whole 0) ∷ []
-  -- EqZero [-1,2]: Changed, [0,0]; And of it with GtZero: Conflict, box [0,0]
-  pub eq-narrows : narrow (is EqZero) (neg (whole 1) ‥ whole 2) ≡ Changed leaving (whole 0 ‥ whole 0) ∷ []
-  pub and-narrows : narrow (And (is EqZero ⨾ is GtZero ⨾ end)) (neg (whole 1) ‥ whole 2) ≡ Conflict leaving (whole 0 ‥ whole 0) ∷ []
-  -- Or of those two, [-1,2]: Changed, [0,2]
-  pub or-narrows : narrow (Or (is EqZero ⨾ is GtZero ⨾ end)) (neg (whole 1) ‥ whole 2) ≡ Changed leaving (whole 0 ‥ whole 2) ∷ []
-  -- NeZero [0,1]: Changed, lo has bits 1; [0,1e-13]: Conflict
-  pub ne-nudges : narrow (is NeZero) (whole 0 ‥ whole 1) ≡ Changed leaving (bits 1 ‥ whole 1) ∷ []
-  pub ne-conflict : narrow (is NeZero) (whole 0 ‥ decimal 1 (10 ^ 13)) ≡ Conflict leaving (whole 0 ‥ decimal 1 (10 ^ 13)) ∷ []
-  -- empty And Stable, empty Or Conflict
-  pub and-empty : narrow (And end) (whole 0 ‥ whole 1) ≡ Stable leaving (whole 0 ‥ whole 1) ∷ []
-  pub or-empty : narrow (Or end) (whole 0 ‥ whole 1) ≡ Conflict leaving (whole 0 ‥ whole 1) ∷ []
-  -- Eml(Const 0, One) is 1; Eml(Const 0, Const -1) is ComplexResult of 400921FB54442D18; Not of EqZero of the latter: solved, exact; its normal form:
-  -- unsatisfied
-  pub eml-one : evalReal usual [] exp0 ≡ Value (whole 1)
-  pub eml-complex : evalReal usual [] lnNegative ≡ Failed (ComplexResult (bits 0x400921FB54442D18))
-  pub not-solved : solve usual (alone (Not (Atom EqZero lnNegative))) 10_000 ≡ assignment [] true 0
-  pub normal-form : solve usual (alone (toNnf (Not (Atom EqZero lnNegative)))) 10_000 ≡ failed unsatisfied +∞ 0
-  -- ForAll v0 in [0,1] EqZero(One), bounds [0,8], limit 1: 'limit', best 1, halvings 1, box [4,8]
-  pub forall-limit : solve usual never 1 ≡ failed limit (whole 1) 1
-  pub forall-box : afterOne (begin usual never) ≡ Going (record { boxes = (whole 4 ‥ whole 8) ∷ []; halvings = 1 })
-
-pub starred : Starred
-unfolding computing
-starred = record {
-  gt-negative = refl;
-  gt-zero = refl;
-  ge-zero = refl;
-  eq-narrows = refl;
-  and-narrows = refl;
-  or-narrows = refl;
-  ne-nudges = refl;
-  ne-conflict = refl;
-  and-empty = refl;
-  or-empty = refl;
-  eml-one = refl;
-  eml-complex = refl;
-  not-solved = refl;
-  normal-form = refl;
-  forall-limit = refl;
-  forall-box = refl;
-}
-
--- GtZero [2,2]: limit 0 exact 0, limit 1 exact 1; and the printing program's example
-exact-0 : solve usual (within (is GtZero) (whole 2 ‥ whole 2)) 0 ≡ assignment (whole 2 ∷ []) false 0
+-- [2,2]: limit 0 exact 0, limit 1 exact 1
+exact-0 : positive (whole 2 ‥ whole 2) 0 ≡ assignment (whole 2 ∷ []) false 0
 unfolding computing
 exact-0 = refl
 
-exact-1 : solve usual (within (is GtZero) (whole 2 ‥ whole 2)) 1 ≡ assignment (whole 2 ∷ []) true 0
+exact-1 : positive (whole 2 ‥ whole 2) 1 ≡ assignment (whole 2 ∷ []) true 0
 unfolding computing
 exact-1 = refl
 
-printed : solve usual (within (is GtZero) (whole 1 ‥ whole 3)) 10_000 ≡ assignment (whole 2 ∷ []) false 0
+printed : positive (whole 1 ‥ whole 3) 10_000 ≡ assignment (whole 2 ∷ []) false 0
 unfolding computing
 printed = refl
-
--- ---- decisions about variable 0 of one
-abbrev forAll : Constraint → Float → Float → QuantResult
-forAll c lo hi = decideForall usual 0 lo hi c 1
-
-abbrev exists : Constraint → Float → Float → QuantResult
-exists c lo hi = decideExists usual 0 lo hi c 1
-
-positive : forAll (is GtZero) (whole 1) (whole 3) ≡ True
-unfolding computing
-positive = refl
-
-not-positive : forAll (is GtZero) (neg (whole 1)) (whole 3) ≡ FalseWithCounterexample (neg (whole 1) ∷ [])
-unfolding computing
-not-positive = refl
-
--- zero lies in the range, and no sample is zero
-not-seen : forAll (is NeZero) (neg (whole 1)) (whole 2) ≡ Unknown
-unfolding computing
-not-seen = refl
-
-witness : exists (is GtZero) (whole 1) (whole 3) ≡ TrueWithWitness (whole 2 ∷ [])
-unfolding computing
-witness = refl
-
-no-witness : exists (is GtZero) (neg (whole 3)) (neg (whole 1)) ≡ Unknown
-unfolding computing
-no-witness = refl
-
--- a variable beyond the point alters nothing in it
-beyond : decideForall usual 1 (whole 1) (whole 3) (is GtZero) 1 ≡ FalseWithCounterexample (whole 0 ∷ [])
-unfolding computing
-beyond = refl
-
--- True is no more than a conflict: GtZero(Eml(Var 0, Const 5)) in [-3,3] is True, although it fails at -3. Narrowing does not round its ends outward,
--- and exp(ln 5) is not 5, so the constant is met by an empty interval.
-abbrev above : Constraint
-above = Atom GtZero (Tree.Eml (Tree.Var 0) (Tree.Const (whole 5)))
-
-true-though : forAll above (neg (whole 3)) (whole 3) ≡ True
-unfolding computing
-true-though = refl
-
-it-fails : check usual (neg (whole 3) ∷ []) above ≡ false
-unfolding computing
-it-fails = refl

@@ -1,13 +1,6 @@
 pub mod Solver
-pub mod Working
 pub mod Answers
 pub mod Calls
-pub mod Deciding
-pub mod Decisions
-pub mod Limit
-pub mod Passing
-pub mod InBox
-pub mod Promises
-pub mod Received
+pub mod Fits
 pub mod Computing
 pub mod Examples

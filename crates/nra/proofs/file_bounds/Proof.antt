@@ -72,7 +72,9 @@ loop-again c =
     let loop = c .before .before .loop in
     let loop-test = c .before .loop-test in
     let bound-in = c .bound-in in
-    let p = loop .inv in (omega arith, p .1, length-set (loop .out .lo) _ _ ∙ p .2, length-set (loop .out .hi) _ _ ∙ p .3, bounds-next (loop .out .count) (loop .i) _ _ (p .2) (p .3) (omega (arith, p .1, bound-count .ensures, s .pre .few-bounds)) _ _ (omega (arith, p .1, loop-test .taken)) (p .4) (bound-in .ensures))
+    let p = loop .inv in
+    let more = bounds-next (loop .out .count) (loop .i) _ _ (p .2) (p .3) (omega (arith, p .1, bound-count .ensures, s .pre .few-bounds)) _ _ in
+    (omega arith, p .1, length-set (loop .out .lo) _ _ ∙ p .2, length-set (loop .out .hi) _ _ ∙ p .3, more (omega (arith, p .1, loop-test .taken)) (p .4) (bound-in .ensures))
 
 returns : tie.Need-returns Inv-loop μ-loop
 unfolding boxesOf

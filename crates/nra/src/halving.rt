@@ -1,0 +1,99 @@
+// One halving (document 01; nra.rs): the last widest box goes to one of its halves.
+use interval::Boxes;
+use point::helpers::check_constraint;
+use point::helpers::evaluate_constraint_residual;
+use settings::Settings;
+ghost use mathlib.Core.Path.{_≡_};
+ghost use Prim.Native.Nat.{_+_};
+ghost use Rattle.interval.specs.Boxes.{boxesOf, midpoints};
+ghost use Rattle.constraint.specs.Starts.{Ready};
+ghost use Rattle.constraint.specs.Views.{the};
+ghost use Rattle.point.specs.Check.{check};
+ghost use Rattle.nra.specs.Answers.{Working};
+ghost use Rattle.nra.specs.Solver as Solver;
+
+// What stays the same in a run: the number of the constraint's record, the settings, the tolerance.
+pub struct Task {
+    pub root: usize,
+    pub settings: Settings,
+    pub tolerance: f64,
+}
+
+// Whether the midpoint of the boxes passes the check.
+pub fn passes(
+    nodes: &[u8],
+    constraints: &[u8],
+    starts: &[usize; 256],
+    task: Task,
+    boxes: Boxes,
+    order: &mut [u16],
+) -> bool
+    requires { ⌜ Ready (now nodes) (now constraints) (task .root + 1) (now starts) ⌝ }
+    requires { ⌜ Working boxes (now order) ⌝ }
+    ensures { λ r. ⌜ r ≡ check (task .settings) (midpoints (boxesOf boxes)) (the nodes constraints (task .root)) ⌝ }
+{
+    let point = boxes.midpoints();
+    let n = boxes.count;
+    let settings = task.settings;
+    check_constraint(
+        nodes,
+        constraints,
+        starts,
+        task.root,
+        settings,
+        &point[..n],
+        order,
+    )
+}
+
+// How far it is from meeting the constraint: the residual's magnitude.
+pub fn distance(
+    nodes: &[u8],
+    constraints: &[u8],
+    starts: &[usize; 256],
+    task: Task,
+    boxes: Boxes,
+    order: &mut [u16],
+) -> f64
+    requires { ⌜ Ready (now nodes) (now constraints) (task .root + 1) (now starts) ⌝ }
+    requires { ⌜ Working boxes (now order) ⌝ }
+    ensures { λ r. ⌜ r ≡ Solver.distance (task .settings) (the nodes constraints (task .root)) (boxesOf boxes) ⌝ }
+{
+    let point = boxes.midpoints();
+    let n = boxes.count;
+    let settings = task.settings;
+    number::abs(evaluate_constraint_residual(
+        nodes,
+        constraints,
+        starts,
+        task.root,
+        settings,
+        &point[..n],
+        order,
+    ))
+}
+
+// The last widest box is halved: its lower half stays only if the residual there is strictly smaller.
+pub fn halved(
+    nodes: &[u8],
+    constraints: &[u8],
+    starts: &[usize; 256],
+    task: Task,
+    boxes: Boxes,
+    order: &mut [u16],
+) -> Boxes
+    requires { ⌜ Ready (now nodes) (now constraints) (task .root + 1) (now starts) ⌝ }
+    requires { ⌜ Working boxes (now order) ⌝ }
+    ensures { λ r. ⌜ (r .count ≡ boxes .count) × (boxesOf r ≡ Solver.halved (task .settings) (the nodes constraints (task .root)) (boxesOf boxes)) ⌝ }
+{
+    let w = boxes.widest();
+    let halves = boxes.at(w).split();
+    let lower = boxes.with_box(w, halves.lower);
+    let upper = boxes.with_box(w, halves.upper);
+    let low = distance(nodes, constraints, starts, task, lower, order);
+    let high = distance(nodes, constraints, starts, task, upper, order);
+    if low < high {
+        return lower;
+    }
+    upper
+}
