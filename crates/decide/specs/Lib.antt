@@ -1,0 +1,5 @@
+pub mod Deciding
+pub mod Views
+pub mod Decisions
+pub mod Computing
+pub mod Examples
