@@ -1,0 +1,1 @@
+// The customer's promises, as theorems: see specs/. There is no code here.
