@@ -50,9 +50,6 @@ uint8_t eml_read_records(const uint8_t *nodes, size_t nodes_length, const uint8_
 /* The number of variables of a file's constraint, to `out`. Refused with 1 to 7. */
 uint8_t eml_num_vars(const uint8_t *file, size_t length, uint64_t *out);
 
-/* A fingerprint of a file's constraint, to `out`; two readers of one file can be compared by it. Refused with 1 to 7. */
-uint8_t eml_fingerprint(const uint8_t *file, size_t length, uint64_t *out);
-
 /* ---- solving */
 
 /* What `stop` is after a call that solves. */

@@ -1,5 +1,6 @@
 //! Comparing two sides bit for bit, and counting what was compared.
 
+use std::fmt::Debug;
 use std::io::Write;
 
 /// Equal in every bit, a NaN counting as a NaN.
@@ -14,6 +15,11 @@ pub fn hex(numbers: &[f64]) -> String {
         .map(|x| format!("{:016X}", x.to_bits()))
         .collect();
     words.join(" ")
+}
+
+/// A value as text, by which two are compared: the digits of an f64 are enough to give its bits, a NaN counting as a NaN.
+pub fn text(value: &impl Debug) -> String {
+    format!("{value:?}")
 }
 
 /// Prints a line also where the test harness keeps what passing tests print.

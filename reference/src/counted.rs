@@ -7,16 +7,7 @@ use crate::smt::constraint::EmlConstraint;
 use crate::smt::helpers::{check_constraint, count_constraint_vars, evaluate_constraint_residual};
 use crate::smt::interval::{Interval, IntervalDomain, PropResult};
 use crate::smt::nra::EmlNraSolver;
-
-/// Document 01's stop words, in its order.
-#[derive(Clone, Copy, Debug, PartialEq)]
-pub enum Stop {
-    Assignment,
-    Conflict,
-    Tolerance,
-    Limit,
-    Unsatisfied,
-}
+use eml::Stop;
 
 /// An assignment has its point and exactness, any other answer its residual.
 #[derive(Clone, Debug)]

@@ -941,9 +941,9 @@ pub fn damage_file(rng: &mut SplitMix64, file: &mut Vec<u8>, bodies: &Bodies) {
 #[cfg(test)]
 mod tests {
     use super::*;
-    use crate::compare::say;
+    use crate::compare::{say, text};
     use crate::eval::EvalCtx;
-    use crate::house::{print_of_constraint, read_file, read_records, records_of};
+    use crate::house::{read_file, read_records, records_of};
     use crate::smt::constraint::EmlConstraint;
     use crate::smt::interval::{IntervalDomain, PropResult};
     use crate::tree::{EmlNode, EmlTree};
@@ -1005,10 +1005,7 @@ mod tests {
             assert_eq!(read.bounds, parts.bounds);
             assert_eq!(records_of(&read.constraint, &read.trees), parts.constraints);
             let again = read_records(&bodies.nodes, &bodies.constraints).unwrap();
-            assert_eq!(
-                print_of_constraint(&again.constraint),
-                print_of_constraint(&read.constraint)
-            );
+            assert_eq!(text(&again.constraint), text(&read.constraint));
             for record in &parts.constraints {
                 kinds[record.kind as usize] += 1;
                 if record.argument == 0 && [kind::AND, kind::OR].contains(&record.kind) {

@@ -1,8 +1,7 @@
-//! The house file: a reader of its own, written from document 01 ("The file" and "Refused"), a writer, and a fingerprint of
-//! what was read.
+//! The house file: a reader of its own, written from document 01 ("The file" and "Refused"), and a writer.
 
 use crate::smt::constraint::EmlConstraint;
-use crate::tree::{EmlNode, EmlTree};
+use crate::tree::EmlTree;
 use std::sync::Arc;
 
 pub const MAX_NODES: usize = 1024;
@@ -424,73 +423,10 @@ fn write_records(constraint: &EmlConstraint, trees: &[EmlTree], out: &mut Vec<Re
     out.push(record);
 }
 
-// The fingerprint of a meaning. It is taken over the expanded meaning, so that two lists of nodes that share differently
-// have the same one. The port exports the same. With h < 2147483647 and x < 2^32 nothing overflows a u64:
-//
-//     mix(h, x) = (h * 1000003 + x + 1) % 2147483647
-//
-//     One           mix(1, 0)
-//     Const v       mix(mix(mix(2, low 32 bits of v), high 32 bits of v), 0)
-//     Var i         mix(3, i)
-//     Eml           mix(mix(4, print of left), print of right)
-//     atom, kind k  mix(mix(5, k), print of its tree)
-//     Not           mix(6, print of what is inside)
-//     And, Or       h = mix(7 or 8, number of children); for each child, oldest first, h = mix(h, print of the child)
-//     ForAll,       h = 9 or 10; then h = mix(h, x) for x = variable, low 32 bits of lo, high 32 bits of lo, low 32 bits of
-//     Exists        hi, high 32 bits of hi, print of the body
-
-pub fn mix(h: u64, x: u64) -> u64 {
-    (h * 1_000_003 + x + 1) % 2_147_483_647
-}
-
-fn low(v: f64) -> u64 {
-    v.to_bits() & 0xFFFF_FFFF
-}
-
-fn high(v: f64) -> u64 {
-    v.to_bits() >> 32
-}
-
-/// The fingerprint of a tree.
-pub fn print_of_tree(node: &EmlNode) -> u64 {
-    match node {
-        EmlNode::One => mix(1, 0),
-        EmlNode::Const(v) => mix(mix(mix(2, low(*v)), high(*v)), 0),
-        EmlNode::Var(i) => mix(3, *i as u64),
-        EmlNode::Eml { left, right } => mix(mix(4, print_of_tree(left)), print_of_tree(right)),
-    }
-}
-
-/// The fingerprint of a constraint.
-pub fn print_of_constraint(constraint: &EmlConstraint) -> u64 {
-    let atom = |k: u8, tree: &EmlTree| mix(mix(5, u64::from(k)), print_of_tree(&tree.root));
-    let children = |start: u64, list: &[EmlConstraint]| {
-        let prints = list.iter().map(print_of_constraint);
-        prints.fold(mix(start, list.len() as u64), mix)
-    };
-    let quantifier = |start: u64, var: usize, lo: f64, hi: f64, body: &EmlConstraint| {
-        let body = print_of_constraint(body);
-        let words = [var as u64, low(lo), high(lo), low(hi), high(hi), body];
-        words.into_iter().fold(start, mix)
-    };
-    match constraint {
-        EmlConstraint::EqZero(tree) => atom(kind::EQ_ZERO, tree),
-        EmlConstraint::GtZero(tree) => atom(kind::GT_ZERO, tree),
-        EmlConstraint::GeZero(tree) => atom(kind::GE_ZERO, tree),
-        EmlConstraint::LtZero(tree) => atom(kind::LT_ZERO, tree),
-        EmlConstraint::LeZero(tree) => atom(kind::LE_ZERO, tree),
-        EmlConstraint::NeZero(tree) => atom(kind::NE_ZERO, tree),
-        EmlConstraint::Not(inner) => mix(6, print_of_constraint(inner)),
-        EmlConstraint::And(list) => children(7, list),
-        EmlConstraint::Or(list) => children(8, list),
-        EmlConstraint::ForAll { var, lo, hi, body } => quantifier(9, *var, *lo, *hi, body),
-        EmlConstraint::Exists { var, lo, hi, body } => quantifier(10, *var, *lo, *hi, body),
-    }
-}
-
 #[cfg(test)]
 mod tests {
     use super::*;
+    use crate::tree::EmlNode;
 
     /// Document 01's example: GtZero of Var 0, bounds [1, 3].
     fn example() -> Parts {
@@ -785,37 +721,5 @@ mod tests {
         assert_eq!(number(nodes, &[]), 7);
         assert_eq!(read_nodes(&[0; 8]).err(), Some(2));
         assert_eq!(read_nodes(&[]).map(|trees| trees.len()).ok(), Some(0));
-    }
-
-    #[test]
-    fn prints() {
-        assert_eq!(mix(1, 0), 1_000_004);
-        assert_eq!(mix(2_147_483_646, u64::from(u32::MAX)), {
-            let exact = 2_147_483_646_u128 * 1_000_003 + u128::from(u32::MAX) + 1;
-            (exact % 2_147_483_647) as u64
-        });
-        // Sharing does not matter, order does.
-        let shared = with_nodes(vec![Node::One, Node::Eml(0, 0)]);
-        let apart = with_nodes(vec![Node::One, Node::One, Node::Eml(0, 1)]);
-        let top = |parts: &Parts| {
-            let trees = read_nodes(&parts.to_bodies().nodes).unwrap();
-            print_of_tree(&trees.last().unwrap().root)
-        };
-        assert_eq!(top(&shared), top(&apart));
-        assert_eq!(top(&shared), mix(mix(4, 1_000_004), 1_000_004));
-        let left = with_nodes(vec![Node::One, Node::Var(0), Node::Eml(0, 1)]);
-        let right = with_nodes(vec![Node::One, Node::Var(0), Node::Eml(1, 0)]);
-        assert_ne!(top(&left), top(&right));
-        let print =
-            |parts: &Parts| print_of_constraint(&read_file(&parts.to_file()).unwrap().constraint);
-        assert_eq!(print(&example()), mix(mix(5, 1), mix(3, 0)));
-        assert_eq!(
-            print(&with_constraints(vec![Record::new(kind::AND, 0)])),
-            mix(7, 0)
-        );
-        assert_eq!(
-            print(&with_constraints(vec![Record::new(kind::OR, 0)])),
-            mix(8, 0)
-        );
     }
 }

@@ -1,11 +1,13 @@
 //! The calls of the proved port, with what the comparison adds to the bindings: refusals as numbers, answers as the Rust has
 //! them, and that a refusal leaves every lent place as it was.
 
-use crate::counted::{Answer, Stop};
+use crate::compare::hex;
+use crate::counted::Answer;
+use crate::error::EmlError;
 use crate::smt::helpers::QuantResult;
 use crate::smt::interval::PropResult;
 use eml::calls::{self, DecidePlaces, EvalPlaces, SolvePlaces};
-use eml::{Interval, Records};
+use eml::{Interval, Records, Stop};
 
 /// A refusal: document 01's number.
 pub type Refusal = u8;
@@ -22,20 +24,13 @@ fn refused_unless_zero<T>(number: Refusal, value: T) -> Result<T, Refusal> {
 /// What an output holds before a call; a refusal must leave it.
 const UNTOUCHED: u64 = 0x5A5A_5A5A_5A5A_5A5A;
 
-/// A number of a file.
-macro_rules! file_call {
-    ($name:ident) => {
-        pub fn $name(file: &[u8]) -> Result<u64, Refusal> {
-            let mut out = UNTOUCHED;
-            let number = number(calls::$name(file, &mut out));
-            assert!(number == 0 || out == UNTOUCHED);
-            refused_unless_zero(number, out)
-        }
-    };
+/// The number of variables of a file's constraint.
+pub fn num_vars(file: &[u8]) -> Result<u64, Refusal> {
+    let mut out = UNTOUCHED;
+    let number = number(calls::num_vars(file, &mut out));
+    assert!(number == 0 || out == UNTOUCHED);
+    refused_unless_zero(number, out)
 }
-
-file_call!(num_vars);
-file_call!(fingerprint);
 
 /// A node's value at a point, or the error.
 #[derive(Clone, Copy, Debug)]
@@ -44,6 +39,18 @@ pub enum Evaluated {
     VarOutOfBounds(usize, usize),
     NanEncountered,
     ComplexResult(f64),
+}
+
+impl From<Result<f64, EmlError>> for Evaluated {
+    fn from(theirs: Result<f64, EmlError>) -> Self {
+        match theirs {
+            Ok(x) => Self::Value(x),
+            Err(EmlError::VarOutOfBounds(index, count)) => Self::VarOutOfBounds(index, count),
+            Err(EmlError::NanEncountered) => Self::NanEncountered,
+            Err(EmlError::ComplexResult(im)) => Self::ComplexResult(im),
+            Err(other) => panic!("{other:?} of an evaluation"),
+        }
+    }
 }
 
 pub fn eval_real(nodes: &[u8], node: usize, point: &[f64]) -> Result<Evaluated, Refusal> {
@@ -88,6 +95,16 @@ pub fn residual(nodes: &[u8], constraints: &[u8], point: &[f64]) -> Result<f64, 
     ));
     assert_eq!(number == 0, out != -1.0);
     refused_unless_zero(number, out)
+}
+
+/// The lower and the upper ends of boxes.
+pub fn ends(boxes: &[(f64, f64)]) -> (Vec<f64>, Vec<f64>) {
+    boxes.iter().copied().unzip()
+}
+
+/// The bits of a list of intervals.
+pub fn bits(boxes: &[Interval]) -> Vec<String> {
+    boxes.iter().map(|b| hex(&[b.lo, b.hi])).collect()
 }
 
 /// Narrows boxes, given by their lower and upper ends.
@@ -163,9 +180,12 @@ fn solved(
         Stop::Limit,
         Stop::Unsatisfied,
     ];
+    let point = to.point[..values].to_vec();
+    // So that equal text is equal bits.
+    assert!(!to.residual.is_nan() && point.iter().all(|x| !x.is_nan()));
     Ok(Answer {
         stop: stops[to.stop as usize],
-        point: to.point[..values].to_vec(),
+        point,
         exact: to.exact,
         residual: to.residual,
         halvings: to.halvings,

@@ -1,23 +1,17 @@
 //! The lines of document 01's printing program, made from the Rust's answers.
 
 use crate::compare::hex;
-use crate::counted::{self, Answer, Stop};
+use crate::counted::{self, Answer};
 use crate::house;
+use eml::Stop;
 
 fn lines_of(answer: &Answer) -> String {
-    let word = match answer.stop {
-        Stop::Assignment => "assignment",
-        Stop::Conflict => "conflict",
-        Stop::Tolerance => "tolerance",
-        Stop::Limit => "limit",
-        Stop::Unsatisfied => "unsatisfied",
-    };
     let quality = if answer.stop == Stop::Assignment {
         format!("exact {}", u8::from(answer.exact))
     } else {
         format!("best {}", hex(&[answer.residual]))
     };
-    let mut lines = format!("{word}\n{quality}\nhalvings {}\n", answer.halvings);
+    let mut lines = format!("{}\n{quality}\nhalvings {}\n", answer.stop, answer.halvings);
     for (i, &x) in answer.point.iter().enumerate() {
         lines += &format!("v{i} {}\n", hex(&[x]));
     }

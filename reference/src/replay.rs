@@ -7,10 +7,11 @@
 //! A case is 176 bytes and then the file. Little-endian: u32 length of the file; a byte each: 0 for an example and 1 for an answer, the
 //! refusal's number, the stop word's, exactness; then 8 bytes each: limit, tolerance, residual, halvings, count of values, 16 values.
 
-use crate::counted::{self, Answer, Stop};
+use crate::counted::{self, Answer};
 use crate::generate::{self, Shape};
 use crate::house::{self, Node, Parts, Record, kind};
 use crate::splitmix::SplitMix64;
+use eml::Stop;
 
 pub const ANSWERS: usize = 320;
 pub const EXAMPLES: usize = 7;

@@ -1,75 +1,45 @@
 //! The bindings' own answers against those of the calls that the other comparisons use, and their refusals.
 
-use eml::{Decision, Evaluation, Interval, Problem, Propagation, Records, Stop, calls};
-use reference::compare::{Tally, hex, say};
-use reference::counted::{self, Answer};
+use eml::{Decision, Evaluation, Interval, Problem, Propagation, Records, calls};
+use reference::compare::{Tally, hex, say, text};
+use reference::counted::Answer;
 use reference::generate::{self, Shape, Temper};
-use reference::port::{self, Evaluated};
+use reference::port::{self, Evaluated, bits};
 use reference::smt::helpers::QuantResult;
 use reference::smt::interval::PropResult;
 use reference::splitmix::SplitMix64;
 
-/// The fields of both sides as text, an f64 by its bits.
-fn solution(answer: Result<eml::Solution, eml::Refusal>) -> Result<String, u8> {
+/// The bindings' answers as the comparison has them.
+fn solution(answer: Result<eml::Solution, eml::Refusal>) -> Result<Answer, u8> {
     let s = answer.map_err(eml::Refusal::number)?;
-    let stop = match s.stop {
-        Stop::Assignment => counted::Stop::Assignment,
-        Stop::Conflict => counted::Stop::Conflict,
-        Stop::Tolerance => counted::Stop::Tolerance,
-        Stop::Limit => counted::Stop::Limit,
-        Stop::Unsatisfied => counted::Stop::Unsatisfied,
-    };
-    Ok(fields(&Answer {
-        stop,
+    Ok(Answer {
+        stop: s.stop,
         point: s.point.to_vec(),
         exact: s.exact,
         residual: s.residual,
         halvings: s.halvings,
-    }))
+    })
 }
 
-fn fields(a: &Answer) -> String {
-    let (point, residual) = (hex(&a.point), hex(&[a.residual]));
-    format!("{:?} {point} {} {residual} {}", a.stop, a.exact, a.halvings)
-}
-
-fn evaluation(answer: Result<Evaluation, eml::Refusal>) -> Result<String, u8> {
-    let value = answer.map_err(eml::Refusal::number)?;
-    Ok(evaluated(match value {
+fn evaluation(answer: Result<Evaluation, eml::Refusal>) -> Result<Evaluated, u8> {
+    Ok(match answer.map_err(eml::Refusal::number)? {
         Evaluation::Value(x) => Evaluated::Value(x),
         Evaluation::VarOutOfBounds { index, count } => Evaluated::VarOutOfBounds(index, count),
         Evaluation::NanEncountered => Evaluated::NanEncountered,
         Evaluation::ComplexResult(im) => Evaluated::ComplexResult(im),
         Evaluation::ExpOverflow(_) => panic!("exp is clamped"),
-    }))
-}
-
-fn evaluated(value: Evaluated) -> String {
-    match value {
-        Evaluated::Value(x) => hex(&[x]),
-        Evaluated::ComplexResult(im) => format!("complex {}", hex(&[im])),
-        other => format!("{other:?}"),
-    }
-}
-
-fn decision(answer: Result<Decision, eml::Refusal>) -> Result<String, u8> {
-    Ok(match answer.map_err(eml::Refusal::number)? {
-        Decision::True => "true".to_string(),
-        Decision::TrueWithWitness(point) => format!("witness {}", hex(&point)),
-        Decision::FalseWithCounterexample(point) => format!("counterexample {}", hex(&point)),
-        Decision::Unknown => "unknown".to_string(),
     })
 }
 
-fn decided(answer: QuantResult) -> String {
-    match answer {
-        QuantResult::True => "true".to_string(),
-        QuantResult::TrueWithWitness(point) => format!("witness {}", hex(&point)),
-        QuantResult::FalseWithCounterexample { counterexample } => {
-            format!("counterexample {}", hex(&counterexample))
-        }
-        QuantResult::Unknown => "unknown".to_string(),
-    }
+fn decision(answer: Result<Decision, eml::Refusal>) -> Result<QuantResult, u8> {
+    Ok(match answer.map_err(eml::Refusal::number)? {
+        Decision::True => QuantResult::True,
+        Decision::TrueWithWitness(point) => QuantResult::TrueWithWitness(point.to_vec()),
+        Decision::FalseWithCounterexample(point) => QuantResult::FalseWithCounterexample {
+            counterexample: point.to_vec(),
+        },
+        Decision::Unknown => QuantResult::Unknown,
+    })
 }
 
 fn propagation(answer: Result<Propagation, eml::Refusal>) -> Result<PropResult, u8> {
@@ -78,10 +48,6 @@ fn propagation(answer: Result<Propagation, eml::Refusal>) -> Result<PropResult, 
         Propagation::Stable => PropResult::Stable,
         Propagation::Conflict => PropResult::Conflict,
     })
-}
-
-fn bits(boxes: &[Interval]) -> Vec<String> {
-    boxes.iter().map(|b| hex(&[b.lo, b.hi])).collect()
 }
 
 /// Files, sound and damaged, with limits that are taken and that are not.
@@ -93,16 +59,14 @@ fn files() {
         let file = generate::any_file(&mut rng);
         let limit = rng.pick(&[0, 1, 5, 1_000_001]);
         let tolerance = rng.pick(&[1e-8, f64::INFINITY, f64::NAN]);
-        let theirs = port::solve_file(&file, limit, tolerance, 16).map(|a| fields(&a));
+        let theirs = port::solve_file(&file, limit, tolerance, 16);
         let untested = solution(eml::solve_file(&file, limit, tolerance));
-        assert_eq!(untested, theirs);
+        assert_eq!(text(&untested), text(&theirs));
         let problem = Problem::from_bytes(&file).map_err(eml::Refusal::number);
         let vars = problem.map(|p| p.num_vars() as u64);
         assert_eq!(vars, port::num_vars(&file));
-        let print = problem.map(|p| p.fingerprint());
-        assert_eq!(print, port::fingerprint(&file));
         let tested = problem.and_then(|p| solution(p.solve(limit, tolerance)));
-        assert_eq!(tested, theirs);
+        assert_eq!(text(&tested), text(&theirs));
         tally.add(theirs.err().unwrap_or(0));
     }
     tally.done(&[0, 1, 2, 3, 4, 5, 6, 7, 8], 100);
@@ -139,10 +103,9 @@ fn records() {
         let theirs = port::residual(&nodes, &constraints, &point);
         assert_eq!(residual.map(f64::to_bits), theirs.map(f64::to_bits));
         let node = rng.below(nodes.len() / 16 + 2);
-        assert_eq!(
-            evaluation(records.eval_real(node, &point)),
-            port::eval_real(&nodes, node, &point).map(evaluated)
-        );
+        let ours = evaluation(records.eval_real(node, &point));
+        let theirs = port::eval_real(&nodes, node, &point);
+        assert_eq!(text(&ours), text(&theirs));
 
         let mut boxes: Vec<Interval> = (0..length)
             .map(|_| generate::range(&mut rng, Temper::Wild))
@@ -156,7 +119,7 @@ fn records() {
         let limit = rng.pick(&[0, 1, 3, 1_000_001]);
         let theirs = port::solve(&nodes, &constraints, &lo, &hi, limit, 1e-8, 16);
         let ours = solution(records.solve(&boxes, limit, 1e-8));
-        assert_eq!(ours, theirs.map(|a| fields(&a)));
+        assert_eq!(text(&ours), text(&theirs));
         tally.add(ours.err().unwrap_or(0));
 
         let (mut narrowed, mut low, mut high) = (boxes.clone(), lo.clone(), hi.clone());
@@ -179,10 +142,10 @@ fn records() {
         let mut places = [0.0; 19];
         let theirs = port::decide_forall(&nodes, &constraints, var, range, num_vars, &mut places);
         let ours = decision(records.decide_forall(var, interval, num_vars));
-        assert_eq!(ours, theirs.map(decided));
+        assert_eq!(text(&ours), text(&theirs));
         let theirs = port::decide_exists(&nodes, &constraints, var, range, num_vars, &mut places);
         let ours = decision(records.decide_exists(var, interval, num_vars));
-        assert_eq!(ours, theirs.map(decided));
+        assert_eq!(text(&ours), text(&theirs));
 
         let before: Vec<u8> = (0..rng.below(200)).map(|_| rng.draw() as u8).collect();
         let (mut ours, mut theirs) = (before.clone(), before);

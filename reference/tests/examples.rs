@@ -3,7 +3,7 @@
 use reference::canonical::Canonical;
 use reference::error::EmlError;
 use reference::eval::EvalCtx;
-use reference::house::{Node, Parts, Record, kind, print_of_tree, read_file, read_nodes};
+use reference::house::{Node, Parts, Record, kind, read_file, read_nodes};
 use reference::smt::constraint::{EmlConstraint, EmlSolution};
 use reference::smt::helpers::{check_constraint, evaluate_constraint_residual};
 use reference::smt::interval::{IntervalDomain, PropResult};
@@ -184,13 +184,12 @@ fn canonical() {
         ..Parts::default()
     };
     let trees = read_nodes(&parts.to_bodies().nodes).unwrap();
-    let print = |tree: &EmlTree| print_of_tree(&tree.root);
-    assert_eq!(print(&trees[6]), print(&Canonical::ln(&trees[0])));
+    assert_eq!(trees[6], Canonical::ln(&trees[0]));
     let sub = Canonical::sub(&trees[0], &trees[1]);
-    assert_eq!(print(&trees[8]), print(&sub));
+    assert_eq!(trees[8], sub);
     let (x, y) = (trees[0].clone(), trees[1].clone());
     let EmlConstraint::LeZero(tree) = EmlConstraint::le(x, y) else {
         panic!("le is LeZero");
     };
-    assert_eq!(print(&tree), print(&sub));
+    assert_eq!(tree, sub);
 }

@@ -4,7 +4,7 @@
 use reference::compare::{Tally, hex, say};
 use reference::generate::{self, Shape, Temper};
 use reference::house;
-use reference::port;
+use reference::port::{self, bits};
 use reference::smt::interval::{Interval, IntervalDomain, PropResult};
 use reference::splitmix::SplitMix64;
 
@@ -45,14 +45,10 @@ fn listed(boxes: &[(f64, f64)]) -> Vec<eml::Interval> {
         .collect()
 }
 
-fn bits(boxes: &[eml::Interval]) -> Vec<String> {
-    boxes.iter().map(|b| hex(&[b.lo, b.hi])).collect()
-}
-
 #[test]
 fn propagation() {
     let mut rng = SplitMix64::new(61);
-    let (mut changed, mut stable, mut conflict, mut written) = (0_u64, 0_u64, 0_u64, 0_u64);
+    let (mut answers, mut written) = ([0_u64; 3], 0_u64);
     for _ in 0..300_000 {
         let shape = shape(&mut rng);
         let parts = generate::problem(&mut rng, &shape);
@@ -66,8 +62,7 @@ fn propagation() {
                 .collect(),
         };
         let theirs = domain.propagate(&problem.constraint);
-        let mut lo: Vec<f64> = boxes.iter().map(|b| b.0).collect();
-        let mut hi: Vec<f64> = boxes.iter().map(|b| b.1).collect();
+        let (mut lo, mut hi) = port::ends(&boxes);
         let before = (lo.clone(), hi.clone());
         let ours = port::propagate(&bodies.nodes, &bodies.constraints, &mut lo, &mut hi);
         assert_eq!(ours, Ok(theirs), "{parts:?} {boxes:?}");
@@ -82,18 +77,15 @@ fn propagation() {
             // No lo lowered, no hi raised, no interval emptied.
             assert!(before.0[i] <= lo[i] && lo[i] <= hi[i] && hi[i] <= before.1[i]);
         }
-        match theirs {
-            PropResult::Changed => changed += 1,
-            PropResult::Stable => stable += 1,
-            PropResult::Conflict => conflict += 1,
-        }
+        answers[theirs as usize] += 1;
         let moved = (&before.0, &before.1) != (&lo, &hi);
         written += u64::from(theirs == PropResult::Conflict && moved);
     }
+    let [changed, stable, conflict] = answers;
     say(&format!(
         "propagate: 300000 compared on ends and on intervals, all equal; Changed {changed}, Stable {stable}, Conflict {conflict}, of which {written} had written"
     ));
-    assert!(changed >= 20_000 && stable >= 20_000 && conflict >= 20_000 && written >= 1_000);
+    assert!(answers.iter().all(|&n| n >= 20_000) && written >= 1_000);
 }
 
 /// Of two lists of ends, which may differ in length, and of one list of intervals.
@@ -105,8 +97,7 @@ fn refusals() {
     for _ in 0..60_000 {
         let (nodes, constraints) = generate::any_records(&mut rng);
         let boxes = generate::any_boxes(&mut rng);
-        let mut lo: Vec<f64> = boxes.iter().map(|b| b.0).collect();
-        let mut hi: Vec<f64> = boxes.iter().map(|b| b.1).collect();
+        let (mut lo, mut hi) = port::ends(&boxes);
         if rng.one_in(20) {
             hi.push(1.0);
         }

@@ -1,7 +1,7 @@
 //! `solve` against the Rust's: stop word, assignment, exactness, residual and count, bit by bit, on a file and on records.
 
-use reference::compare::{Tally, hex, say};
-use reference::counted::{self, Answer};
+use reference::compare::{Tally, say, text};
+use reference::counted;
 use reference::generate::{self, Shape};
 use reference::house;
 use reference::port;
@@ -16,22 +16,6 @@ fn shape(rng: &mut SplitMix64) -> Shape {
     } else {
         Shape::small(rng)
     }
-}
-
-/// Every field, an f64 by its bits.
-fn fields(answer: &Answer) -> (counted::Stop, String, bool, u64, usize) {
-    let residual = answer.residual.to_bits();
-    (
-        answer.stop,
-        hex(&answer.point),
-        answer.exact,
-        residual,
-        answer.halvings,
-    )
-}
-
-fn ends(boxes: &[(f64, f64)]) -> (Vec<f64>, Vec<f64>) {
-    boxes.iter().copied().unzip()
 }
 
 #[test]
@@ -54,15 +38,11 @@ fn problems() {
         let tolerance = rng.pick(&TOLERANCES);
         let theirs = counted::solve(&problem.constraint, &problem.bounds, limit, tolerance);
         let of_file = port::solve_file(&file, limit, tolerance, 16).expect("accepted");
-        let (lo, hi) = ends(&problem.bounds);
+        let (lo, hi) = port::ends(&problem.bounds);
         let (nodes, constraints) = (&bodies.nodes, &bodies.constraints);
         let of_records = port::solve(nodes, constraints, &lo, &hi, limit, tolerance, 16);
         for ours in [of_file, of_records.expect("accepted")] {
-            assert_eq!(
-                fields(&ours),
-                fields(&theirs),
-                "{parts:?} {limit} {tolerance}"
-            );
+            assert_eq!(text(&ours), text(&theirs), "{parts:?} {limit} {tolerance}");
         }
         stops[theirs.stop as usize] += 1;
         halved += u64::from(theirs.halvings > 0);
@@ -106,7 +86,7 @@ fn refusals_of_records() {
         let (nodes, constraints) = generate::any_records(&mut rng);
         let boxes = generate::any_boxes(&mut rng);
         let count = boxes.len();
-        let (lo, mut hi) = ends(&boxes);
+        let (lo, mut hi) = port::ends(&boxes);
         if rng.one_in(20) {
             hi.push(1.0);
         }

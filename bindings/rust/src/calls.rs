@@ -34,11 +34,6 @@ pub fn num_vars(file: &[u8], out: &mut u64) -> Result<(), Refusal> {
     Refusal::unless_zero(unsafe { raw::eml_num_vars(file.as_ptr(), file.len(), out) })
 }
 
-/// A fingerprint of a file's constraint.
-pub fn fingerprint(file: &[u8], out: &mut u64) -> Result<(), Refusal> {
-    Refusal::unless_zero(unsafe { raw::eml_fingerprint(file.as_ptr(), file.len(), out) })
-}
-
 /// Appends the four nodes of ln x to a list of `count` nodes, whose free places are the bytes after them.
 pub fn canonical_ln(nodes: &mut [u8], count: usize, x: usize) -> Result<(), Refusal> {
     let (list, length) = (nodes.as_mut_ptr(), nodes.len());

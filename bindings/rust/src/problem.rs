@@ -37,13 +37,6 @@ impl<'a> Problem<'a> {
         out as usize
     }
 
-    /// A fingerprint of the constraint, by which two readers of one file can be compared.
-    pub fn fingerprint(&self) -> u64 {
-        let mut out = 0;
-        calls::fingerprint(self.file, &mut out).expect(TAKEN);
-        out
-    }
-
     /// Solves it; refused with 8. `limit` is the most halvings, and a box is narrow below `tolerance`.
     pub fn solve(&self, limit: usize, tolerance: f64) -> Result<Solution, Refusal> {
         solve_file(self.file, limit, tolerance)

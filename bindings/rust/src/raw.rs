@@ -63,46 +63,9 @@ unsafe extern "C" {
         constraints_length: usize,
     ) -> u8;
     pub fn eml_num_vars(file: *const u8, length: usize, out: &mut u64) -> u8;
-    pub fn eml_fingerprint(file: *const u8, length: usize, out: &mut u64) -> u8;
     pub fn eml_canonical_ln(nodes: *mut u8, length: usize, count: usize, x: usize) -> u8;
     pub fn eml_canonical_sub(nodes: *mut u8, length: usize, count: usize, x: usize, y: usize)
     -> u8;
-    pub fn eml_lt(
-        nodes: *mut u8,
-        length: usize,
-        count: usize,
-        x: usize,
-        y: usize,
-        out: *mut u8,
-        out_length: usize,
-    ) -> u8;
-    pub fn eml_le(
-        nodes: *mut u8,
-        length: usize,
-        count: usize,
-        x: usize,
-        y: usize,
-        out: *mut u8,
-        out_length: usize,
-    ) -> u8;
-    pub fn eml_gt(
-        nodes: *mut u8,
-        length: usize,
-        count: usize,
-        x: usize,
-        y: usize,
-        out: *mut u8,
-        out_length: usize,
-    ) -> u8;
-    pub fn eml_ge(
-        nodes: *mut u8,
-        length: usize,
-        count: usize,
-        x: usize,
-        y: usize,
-        out: *mut u8,
-        out_length: usize,
-    ) -> u8;
     pub fn eml_eval_real(
         nodes: *const u8,
         length: usize,
@@ -193,32 +156,44 @@ unsafe extern "C" {
         point: *mut f64,
         point_length: usize,
     ) -> u8;
-    pub fn eml_decide_forall(
-        nodes: *const u8,
-        nodes_length: usize,
-        constraints: *const u8,
-        constraints_length: usize,
-        var: usize,
-        lo: f64,
-        hi: f64,
-        num_vars: usize,
-        verdict: &mut u8,
-        count: &mut usize,
-        point: *mut f64,
-        point_length: usize,
-    ) -> u8;
-    pub fn eml_decide_exists(
-        nodes: *const u8,
-        nodes_length: usize,
-        constraints: *const u8,
-        constraints_length: usize,
-        var: usize,
-        lo: f64,
-        hi: f64,
-        num_vars: usize,
-        verdict: &mut u8,
-        count: &mut usize,
-        point: *mut f64,
-        point_length: usize,
-    ) -> u8;
 }
+
+/// Calls that differ in their names only.
+macro_rules! alike {
+    ($($name:ident),* as $arguments:tt) => {
+        alike!(@each $($name $arguments)*);
+    };
+    (@each $($name:ident ($($argument:ident: $kind:ty),*))*) => {
+        unsafe extern "C" {
+            $(pub fn $name($($argument: $kind),*) -> u8;)*
+        }
+    };
+}
+
+alike!(
+    eml_lt, eml_le, eml_gt, eml_ge as (
+        nodes: *mut u8,
+        length: usize,
+        count: usize,
+        x: usize,
+        y: usize,
+        out: *mut u8,
+        out_length: usize
+    )
+);
+alike!(
+    eml_decide_forall, eml_decide_exists as (
+        nodes: *const u8,
+        nodes_length: usize,
+        constraints: *const u8,
+        constraints_length: usize,
+        var: usize,
+        lo: f64,
+        hi: f64,
+        num_vars: usize,
+        verdict: &mut u8,
+        count: &mut usize,
+        point: *mut f64,
+        point_length: usize
+    )
+);

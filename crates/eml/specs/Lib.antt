@@ -1,6 +1,3 @@
-pub mod Exported
-pub mod Pointed
-pub mod Narrowed
-pub mod Normalised
-pub mod Solving
-pub mod Decided
+pub mod Answers
+pub mod Places
+pub mod PlacesLaws

@@ -1,11 +1,14 @@
 // Decisions about a variable in a range, on records. A refusal leaves the lent places as they were.
-use crate::solving::write_point;
-use nra::decide::Decided;
-use nra::decide::Verdict;
+use crate::values::room_refusal;
+use crate::values::write_point;
+use decide::Decided;
+use decide::Verdict;
 ghost use mathlib.Core.Path.{_≡_};
 ghost use Prim.Native.Nat.{_≤_};
-ghost use Rattle.nra.specs.Deciding.{decideForallGiven, decideExistsGiven};
-ghost use Rattle.eml.specs.Decided.{verdictNumber, decisionNumber, decided, deciding};
+ghost use Rattle.settings.specs.Settings.{usual};
+ghost use Rattle.decide.specs.Deciding.{decideForallGiven, decideExistsGiven};
+ghost use Rattle.record.specs.Views.{old};
+ghost use Rattle.eml.specs.Places.{verdictNumber, Decides};
 
 fn verdict_number(verdict: Verdict) -> u8
     ensures { λ r. ⌜ r ≡ verdictNumber verdict ⌝ }
@@ -18,18 +21,6 @@ fn verdict_number(verdict: Verdict) -> u8
     }
 }
 
-fn decision_number(refusal: u8, n: usize, room: usize) -> u8
-    ensures { λ r. ⌜ r ≡ decisionNumber refusal n room ⌝ }
-{
-    if refusal != 0 {
-        return refusal;
-    }
-    if n <= room {
-        return 0;
-    }
-    10
-}
-
 fn write_decided(
     answer: Decided,
     n: usize,
@@ -38,18 +29,17 @@ fn write_decided(
     point: &mut [f64],
 ) -> u8
     requires { ⌜ (answer .count ≤ n) × (answer .count ≤ 16) ⌝ }
-    ensures { λ r. ⌜ decided r (now (verdict .exit)) (now (count .exit)) (now (point .exit)) ≡ deciding answer n (now (verdict .entry)) (now (count .entry)) (now (point .entry)) ⌝ }
+    ensures { λ r. ⌜ Decides verdict count point r answer n ⌝ }
 {
-    let r = decision_number(answer.refusal, n, point.len());
+    let r = room_refusal(answer.refusal, n, point.len());
     if r != 0 {
         return r;
     }
     let v = answer.verdict;
-    *verdict = verdict_number(v);
-    let k = answer.count;
-    *count = k;
     let values = answer.point;
-    write_point(values, k, point);
+    *verdict = verdict_number(v);
+    *count = answer.count;
+    write_point(values, answer.count, point);
     0
 }
 
@@ -67,9 +57,9 @@ pub extern "C" fn eml_decide_forall(
     count: &mut usize,
     point: &mut [f64],
 ) -> u8
-    ensures { λ r. ⌜ decided r (now (verdict .exit)) (now (count .exit)) (now (point .exit)) ≡ deciding (decideForallGiven (now (nodes .entry)) (now (constraints .entry)) var lo hi «num_vars») «num_vars» (now (verdict .entry)) (now (count .entry)) (now (point .entry)) ⌝ }
+    ensures { λ r. ⌜ Decides verdict count point r (decideForallGiven usual (old nodes) (old constraints) var lo hi «num_vars») «num_vars» ⌝ }
 {
-    let answer = nra::decide_forall(nodes, constraints, var, lo, hi, num_vars);
+    let answer = decide::decide_forall(nodes, constraints, var, lo, hi, num_vars);
     write_decided(answer, num_vars, verdict, count, point)
 }
 
@@ -86,8 +76,8 @@ pub extern "C" fn eml_decide_exists(
     count: &mut usize,
     point: &mut [f64],
 ) -> u8
-    ensures { λ r. ⌜ decided r (now (verdict .exit)) (now (count .exit)) (now (point .exit)) ≡ deciding (decideExistsGiven (now (nodes .entry)) (now (constraints .entry)) var lo hi «num_vars») «num_vars» (now (verdict .entry)) (now (count .entry)) (now (point .entry)) ⌝ }
+    ensures { λ r. ⌜ Decides verdict count point r (decideExistsGiven usual (old nodes) (old constraints) var lo hi «num_vars») «num_vars» ⌝ }
 {
-    let answer = nra::decide_exists(nodes, constraints, var, lo, hi, num_vars);
+    let answer = decide::decide_exists(nodes, constraints, var, lo, hi, num_vars);
     write_decided(answer, num_vars, verdict, count, point)
 }

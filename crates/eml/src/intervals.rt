@@ -2,37 +2,34 @@
 use interval::Interval;
 ghost use mathlib.Core.Path.{_≡_};
 ghost use Rattle.interval.specs.Interval.{_‥_, isEmpty, width, midpoint, contains, split, intersect, hull, exp, ln};
+ghost use Rattle.record.specs.Views.{final};
 
 #[no_mangle]
 pub extern "C" fn eml_interval_is_empty(lo: f64, hi: f64) -> bool
     ensures { λ r. ⌜ r ≡ isEmpty (lo ‥ hi) ⌝ }
 {
-    let i = Interval { lo, hi };
-    i.is_empty()
+    Interval { lo, hi }.is_empty()
 }
 
 #[no_mangle]
 pub extern "C" fn eml_interval_width(lo: f64, hi: f64) -> f64
     ensures { λ r. ⌜ r ≡ width (lo ‥ hi) ⌝ }
 {
-    let i = Interval { lo, hi };
-    i.width()
+    Interval { lo, hi }.width()
 }
 
 #[no_mangle]
 pub extern "C" fn eml_interval_midpoint(lo: f64, hi: f64) -> f64
     ensures { λ r. ⌜ r ≡ midpoint (lo ‥ hi) ⌝ }
 {
-    let i = Interval { lo, hi };
-    i.midpoint()
+    Interval { lo, hi }.midpoint()
 }
 
 #[no_mangle]
 pub extern "C" fn eml_interval_contains(lo: f64, hi: f64, x: f64) -> bool
     ensures { λ r. ⌜ r ≡ contains (lo ‥ hi) x ⌝ }
 {
-    let i = Interval { lo, hi };
-    i.contains(x)
+    Interval { lo, hi }.contains(x)
 }
 
 // The lower half to [low, middle] and the upper to [middle, high].
@@ -44,10 +41,9 @@ pub extern "C" fn eml_interval_split(
     middle: &mut f64,
     high: &mut f64,
 )
-    ensures { λ _. ⌜ record { lower = now (low .exit) ‥ now (middle .exit); upper = now (middle .exit) ‥ now (high .exit) } ≡ split (lo ‥ hi) ⌝ }
+    ensures { λ _. ⌜ record { lower = final low ‥ final middle; upper = final middle ‥ final high } ≡ split (lo ‥ hi) ⌝ }
 {
-    let i = Interval { lo, hi };
-    let halves = i.split();
+    let halves = Interval { lo, hi }.split();
     let lower = halves.lower;
     let upper = halves.upper;
     *low = lower.lo;
@@ -64,14 +60,12 @@ pub extern "C" fn eml_interval_intersect(
     low: &mut f64,
     high: &mut f64,
 )
-    ensures { λ _. ⌜ (now (low .exit) ‥ now (high .exit)) ≡ intersect (lo ‥ hi) (other ‥ another) ⌝ }
+    ensures { λ _. ⌜ (final low ‥ final high) ≡ intersect (lo ‥ hi) (other ‥ another) ⌝ }
 {
-    let i = Interval { lo, hi };
-    let j = Interval {
+    let r = Interval { lo, hi }.intersect(Interval {
         lo: other,
         hi: another,
-    };
-    let r = i.intersect(j);
+    });
     *low = r.lo;
     *high = r.hi;
 }
@@ -85,61 +79,55 @@ pub extern "C" fn eml_interval_hull(
     low: &mut f64,
     high: &mut f64,
 )
-    ensures { λ _. ⌜ (now (low .exit) ‥ now (high .exit)) ≡ hull (lo ‥ hi) (other ‥ another) ⌝ }
+    ensures { λ _. ⌜ (final low ‥ final high) ≡ hull (lo ‥ hi) (other ‥ another) ⌝ }
 {
-    let i = Interval { lo, hi };
-    let j = Interval {
+    let r = Interval { lo, hi }.hull(Interval {
         lo: other,
         hi: another,
-    };
-    let r = i.hull(j);
+    });
     *low = r.lo;
     *high = r.hi;
 }
 
 #[no_mangle]
 pub extern "C" fn eml_interval_exp(lo: f64, hi: f64, low: &mut f64, high: &mut f64)
-    ensures { λ _. ⌜ (now (low .exit) ‥ now (high .exit)) ≡ exp (lo ‥ hi) ⌝ }
+    ensures { λ _. ⌜ (final low ‥ final high) ≡ exp (lo ‥ hi) ⌝ }
 {
-    let i = Interval { lo, hi };
-    let r = i.exp();
+    let r = Interval { lo, hi }.exp();
     *low = r.lo;
     *high = r.hi;
 }
 
 #[no_mangle]
 pub extern "C" fn eml_interval_ln(lo: f64, hi: f64, low: &mut f64, high: &mut f64)
-    ensures { λ _. ⌜ (now (low .exit) ‥ now (high .exit)) ≡ ln (lo ‥ hi) ⌝ }
+    ensures { λ _. ⌜ (final low ‥ final high) ≡ ln (lo ‥ hi) ⌝ }
 {
-    let i = Interval { lo, hi };
-    let r = i.ln();
+    let r = Interval { lo, hi }.ln();
     *low = r.lo;
     *high = r.hi;
 }
 
 #[no_mangle]
 pub extern "C" fn eml_interval_exp_inv(lo: f64, hi: f64, low: &mut f64, high: &mut f64)
-    ensures { λ _. ⌜ (now (low .exit) ‥ now (high .exit)) ≡ ln (lo ‥ hi) ⌝ }
+    ensures { λ _. ⌜ (final low ‥ final high) ≡ ln (lo ‥ hi) ⌝ }
 {
-    let i = Interval { lo, hi };
-    let r = i.exp_inv();
+    let r = Interval { lo, hi }.exp_inv();
     *low = r.lo;
     *high = r.hi;
 }
 
 #[no_mangle]
 pub extern "C" fn eml_interval_ln_inv(lo: f64, hi: f64, low: &mut f64, high: &mut f64)
-    ensures { λ _. ⌜ (now (low .exit) ‥ now (high .exit)) ≡ exp (lo ‥ hi) ⌝ }
+    ensures { λ _. ⌜ (final low ‥ final high) ≡ exp (lo ‥ hi) ⌝ }
 {
-    let i = Interval { lo, hi };
-    let r = i.ln_inv();
+    let r = Interval { lo, hi }.ln_inv();
     *low = r.lo;
     *high = r.hi;
 }
 
 #[no_mangle]
 pub extern "C" fn eml_interval_new(lo: f64, hi: f64, low: &mut f64, high: &mut f64)
-    ensures { λ _. ⌜ (now (low .exit) ‥ now (high .exit)) ≡ (lo ‥ hi) ⌝ }
+    ensures { λ _. ⌜ (final low ‥ final high) ≡ (lo ‥ hi) ⌝ }
 {
     let r = Interval::new(lo, hi);
     *low = r.lo;
@@ -148,7 +136,7 @@ pub extern "C" fn eml_interval_new(lo: f64, hi: f64, low: &mut f64, high: &mut f
 
 #[no_mangle]
 pub extern "C" fn eml_interval_point(v: f64, low: &mut f64, high: &mut f64)
-    ensures { λ _. ⌜ (now (low .exit) ‥ now (high .exit)) ≡ (v ‥ v) ⌝ }
+    ensures { λ _. ⌜ (final low ‥ final high) ≡ (v ‥ v) ⌝ }
 {
     let r = Interval::point(v);
     *low = r.lo;

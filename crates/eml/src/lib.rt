@@ -9,3 +9,4 @@ mod normal_form;
 mod points;
 mod reading;
 mod solving;
+mod values;

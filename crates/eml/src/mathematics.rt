@@ -8,6 +8,7 @@ ghost use Rattle.maths.specs.Exp.{expOf};
 ghost use Rattle.maths.specs.Ln.{lnOf};
 ghost use Rattle.maths.specs.Trig.{sinOf, cosOf, atanOf};
 ghost use Rattle.maths.specs.Cplx.{complexExp, complexLn};
+ghost use Rattle.record.specs.Views.{final};
 
 #[no_mangle]
 pub extern "C" fn eml_exp(x: f64) -> f64
@@ -47,8 +48,7 @@ pub extern "C" fn eml_atan(x: f64) -> f64
 // Writes the result to real and imag.
 #[no_mangle]
 pub extern "C" fn eml_complex_exp(re: f64, im: f64, real: &mut f64, imag: &mut f64)
-    ensures { λ r. ⌜ now (real .exit) ≡ complexExp (record { re = re; im = im }) .re ⌝ }
-    ensures { λ r. ⌜ now (imag .exit) ≡ complexExp (record { re = re; im = im }) .im ⌝ }
+    ensures { λ _. ⌜ record { re = final real; im = final imag } ≡ complexExp (record { re = re; im = im }) ⌝ }
 {
     let z = maths::complex_exp(maths::Complex { re, im });
     *real = z.re;
@@ -57,8 +57,7 @@ pub extern "C" fn eml_complex_exp(re: f64, im: f64, real: &mut f64, imag: &mut f
 
 #[no_mangle]
 pub extern "C" fn eml_complex_ln(re: f64, im: f64, real: &mut f64, imag: &mut f64)
-    ensures { λ r. ⌜ now (real .exit) ≡ complexLn (record { re = re; im = im }) .re ⌝ }
-    ensures { λ r. ⌜ now (imag .exit) ≡ complexLn (record { re = re; im = im }) .im ⌝ }
+    ensures { λ _. ⌜ record { re = final real; im = final imag } ≡ complexLn (record { re = re; im = im }) ⌝ }
 {
     let z = maths::complex_ln(maths::Complex { re, im });
     *real = z.re;

@@ -3,9 +3,12 @@ use interval::Interval;
 use narrow::PropResult;
 use narrow::Propagated;
 ghost use mathlib.Core.Path.{_≡_};
+ghost use Rattle.record.specs.Leaving.{_leaving_};
+ghost use Rattle.settings.specs.Settings.{usual};
 ghost use Rattle.narrow.specs.Given.{propagateGiven};
 ghost use Rattle.lent.specs.Lent.{propagateLent};
-ghost use Rattle.eml.specs.Narrowed.{resultNumber, propagatedNumber, resultOr, propagated, propagating, narrowed, narrowing};
+ghost use Rattle.record.specs.Views.{old, final};
+ghost use Rattle.eml.specs.Answers.{writing, resultNumber, propagated};
 
 fn result_number(result: PropResult) -> u8
     ensures { λ r. ⌜ r ≡ resultNumber result ⌝ }
@@ -17,31 +20,16 @@ fn result_number(result: PropResult) -> u8
     }
 }
 
-fn propagated_number(answer: Propagated) -> u8
-    ensures { λ r. ⌜ r ≡ propagatedNumber answer ⌝ }
+fn write_propagated(x: Propagated, answer: &mut u8) -> u8
+    ensures { λ r. ⌜ (r leaving final answer) ≡ propagated x (old answer) ⌝ }
 {
-    match answer {
+    match x {
         Propagated::Refused(number) => number,
-        Propagated::Answered(_) => 0,
+        Propagated::Answered(result) => {
+            *answer = result_number(result);
+            0
+        }
     }
-}
-
-fn result_or(answer: Propagated, old: u8) -> u8
-    ensures { λ r. ⌜ r ≡ resultOr answer old ⌝ }
-{
-    match answer {
-        Propagated::Refused(_) => old,
-        Propagated::Answered(result) => result_number(result),
-    }
-}
-
-// The refusal's number or 0, with the answer's number in the lent place.
-fn put_answer(x: Propagated, answer: &mut u8) -> u8
-    ensures { λ r. ⌜ (r ≡ propagatedNumber x) × (now (answer .exit) ≡ resultOr x (now (answer .entry))) ⌝ }
-{
-    let old = *answer;
-    *answer = result_or(x, old);
-    propagated_number(x)
 }
 
 // Narrows the boxes. `answer` is 0 for Changed, 1 Stable, 2 Conflict; a refusal leaves it and the boxes as they were.
@@ -53,10 +41,10 @@ pub extern "C" fn eml_propagate(
     hi: &mut [f64],
     answer: &mut u8,
 ) -> u8
-    ensures { λ r. ⌜ propagated r (now (answer .exit)) (now (lo .exit)) (now (hi .exit)) ≡ propagating (propagateGiven (now (nodes .entry)) (now (constraints .entry)) (now (lo .entry)) (now (hi .entry))) (now (answer .entry)) ⌝ }
+    ensures { λ r. ⌜ (r leaving (final answer, (final lo, final hi))) ≡ writing propagated (propagateGiven usual (old nodes) (old constraints) (old lo) (old hi)) (old answer) ⌝ }
 {
     let x = narrow::propagate_given(nodes, constraints, lo, hi);
-    put_answer(x, answer)
+    write_propagated(x, answer)
 }
 
 // The same on the caller's own list of intervals.
@@ -67,8 +55,8 @@ pub extern "C" fn eml_propagate_intervals(
     boxes: &mut [Interval],
     answer: &mut u8,
 ) -> u8
-    ensures { λ r. ⌜ narrowed r (now (answer .exit)) (now (boxes .exit)) ≡ narrowing (propagateLent (now (nodes .entry)) (now (constraints .entry)) (now (boxes .entry))) (now (answer .entry)) ⌝ }
+    ensures { λ r. ⌜ (r leaving (final answer, final boxes)) ≡ writing propagated (propagateLent usual (old nodes) (old constraints) (old boxes)) (old answer) ⌝ }
 {
     let x = lent::propagate(nodes, constraints, boxes);
-    put_answer(x, answer)
+    write_propagated(x, answer)
 }

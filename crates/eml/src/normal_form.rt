@@ -1,26 +1,10 @@
 // The normal form of a constraint, as records.
 use normal::Nnf;
 ghost use mathlib.Core.Path.{_≡_};
+ghost use Rattle.record.specs.Leaving.{_leaving_};
 ghost use Rattle.normal.specs.Given.{toNnfGiven};
-ghost use Rattle.eml.specs.Normalised.{nnfNumber, recordsOr, normalised, normalising};
-
-fn nnf_number(answer: Nnf) -> u8
-    ensures { λ r. ⌜ r ≡ nnfNumber answer ⌝ }
-{
-    match answer {
-        Nnf::Refused(number) => number,
-        Nnf::Records(_) => 0,
-    }
-}
-
-fn records_or(answer: Nnf, old: usize) -> usize
-    ensures { λ r. ⌜ r ≡ recordsOr answer old ⌝ }
-{
-    match answer {
-        Nnf::Refused(_) => old,
-        Nnf::Records(n) => n,
-    }
-}
+ghost use Rattle.record.specs.Views.{old, final};
+ghost use Rattle.eml.specs.Answers.{writing, normalised};
 
 // Writes the records of the normal form into `out` and their number into `records`; a refusal leaves both as they were.
 #[no_mangle]
@@ -30,10 +14,13 @@ pub extern "C" fn eml_to_nnf(
     out: &mut [u8],
     records: &mut usize,
 ) -> u8
-    ensures { λ r. ⌜ normalised r (now (records .exit)) (now (out .exit)) ≡ normalising (toNnfGiven (now (nodes .entry)) (now (constraints .entry)) (now (out .entry))) (now (records .entry)) ⌝ }
+    ensures { λ r. ⌜ (r leaving (final records, final out)) ≡ writing normalised (toNnfGiven (old nodes) (old constraints) (old out)) (old records) ⌝ }
 {
-    let x = normal::to_nnf_given(nodes, constraints, out);
-    let old = *records;
-    *records = records_or(x, old);
-    nnf_number(x)
+    match normal::to_nnf_given(nodes, constraints, out) {
+        Nnf::Refused(number) => number,
+        Nnf::Records(n) => {
+            *records = n;
+            0
+        }
+    }
 }

@@ -1,26 +1,15 @@
 // Solving, of a file and of records with bounds.
-use nra::Solved;
-ghost use mathlib.Core.Path.{_≡_};
+use crate::values::room_refusal;
+use crate::values::write_point;
+use nra::answer::Solved;
 ghost use Prim.Native.Nat.{_≤_};
 ghost use lib.ListN.{length};
-ghost use lib.Seq.{paste};
+ghost use Rattle.settings.specs.Settings.{usual};
 ghost use Rattle.nra.specs.Calls.{solveFile, solveGiven};
-ghost use Rattle.eml.specs.Solving.{places, _leaving_, giving};
+ghost use Rattle.record.specs.Views.{old};
+ghost use Rattle.eml.specs.Places.{Solves};
 
-// Writes the values of a point to the first places; decisions write theirs so too.
-pub fn write_point(values: [f64; 16], count: usize, point: &mut [f64])
-    requires { ⌜ (count ≤ length values) × (count ≤ length (now point)) ⌝ }
-    ensures { λ _. ⌜ now (point .exit) ≡ paste (now (point .entry)) 0 values count ⌝ }
-{
-    let mut i: usize = 0;
-    while i < count {
-        point[i] = values[i];
-        i += 1;
-    }
-}
-
-// Writes an answer to the lent places, unless it is a refusal.
-fn give(
+fn write_solved(
     s: Solved,
     stop: &mut u8,
     exact: &mut bool,
@@ -30,17 +19,15 @@ fn give(
     point: &mut [f64],
 ) -> u8
     requires { ⌜ s .count ≤ length (s .point) ⌝ }
-    ensures { λ r. ⌜ (r leaving places (now (stop .exit)) (now (exact .exit)) (now (residual .exit)) (now (halvings .exit)) (now (count .exit)) (now (point .exit))) ≡ giving s (places (now (stop .entry)) (now (exact .entry)) (now (residual .entry)) (now (halvings .entry)) (now (count .entry)) (now (point .entry))) ⌝ }
+    ensures { λ r. ⌜ Solves stop exact residual halvings count point r s ⌝ }
 {
-    if s.refusal != 0 {
-        return s.refusal;
-    }
-    if point.len() < s.count {
-        return 10;
+    let r = room_refusal(s.refusal, s.count, point.len());
+    if r != 0 {
+        return r;
     }
     let word = s.stop;
     let values = s.point;
-    *stop = nra::stop_number(word);
+    *stop = nra::answer::stop_number(word);
     *exact = s.exact;
     *residual = s.residual;
     *halvings = s.halvings;
@@ -63,10 +50,10 @@ pub extern "C" fn eml_solve_file(
     count: &mut usize,
     point: &mut [f64],
 ) -> u8
-    ensures { λ r. ⌜ (r leaving places (now (stop .exit)) (now (exact .exit)) (now (residual .exit)) (now (halvings .exit)) (now (count .exit)) (now (point .exit))) ≡ giving (solveFile (now (file .entry)) limit tolerance) (places (now (stop .entry)) (now (exact .entry)) (now (residual .entry)) (now (halvings .entry)) (now (count .entry)) (now (point .entry))) ⌝ }
+    ensures { λ r. ⌜ Solves stop exact residual halvings count point r (solveFile usual (old file) limit tolerance) ⌝ }
 {
     let s = nra::solve_file(file, limit, tolerance);
-    give(s, stop, exact, residual, halvings, count, point)
+    write_solved(s, stop, exact, residual, halvings, count, point)
 }
 
 // Solves records with bounds, and answers as `eml_solve_file` does.
@@ -85,8 +72,8 @@ pub extern "C" fn eml_solve(
     count: &mut usize,
     point: &mut [f64],
 ) -> u8
-    ensures { λ r. ⌜ (r leaving places (now (stop .exit)) (now (exact .exit)) (now (residual .exit)) (now (halvings .exit)) (now (count .exit)) (now (point .exit))) ≡ giving (solveGiven (now (nodes .entry)) (now (constraints .entry)) (now (lo .entry)) (now (hi .entry)) limit tolerance) (places (now (stop .entry)) (now (exact .entry)) (now (residual .entry)) (now (halvings .entry)) (now (count .entry)) (now (point .entry))) ⌝ }
+    ensures { λ r. ⌜ Solves stop exact residual halvings count point r (solveGiven usual (old nodes) (old constraints) (old lo) (old hi) limit tolerance) ⌝ }
 {
     let s = nra::solve(nodes, constraints, lo, hi, limit, tolerance);
-    give(s, stop, exact, residual, halvings, count, point)
+    write_solved(s, stop, exact, residual, halvings, count, point)
 }

@@ -1,7 +1,7 @@
 // The printing program of document 01: reads a house file from standard input, solves it with limit 10,000 and tolerance 1e-8, and prints the
 // answer's lines. What is printed no contract can say; the digits and the answer are proved, and the lines are compared by running.
-use nra::Solved;
-use nra::Stop;
+use nra::answer::Solved;
+use nra::answer::Stop;
 ghost use mathlib.Core.Path.{_≡_};
 ghost use Prim.Native.Nat.{_<_, _≤_};
 ghost use lib.ListN.{length};

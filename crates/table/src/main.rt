@@ -1,7 +1,7 @@
 // Replays the examples of document 01 that are not starred, and answers of the reference: reads the cases from standard input, and prints how many
 // came out the same. A case is 176 bytes of what was asked and answered, then the file; reference/src/replay.rs writes them.
 use narrow::Propagated;
-use nra::Solved;
+use nra::answer::Solved;
 ghost use Prim.Native.Nat.{_≤_};
 ghost use lib.ListN.{length};
 
@@ -12,7 +12,7 @@ fn is_same_point(s: Solved, head: &[u8]) -> bool
     let point = s.point;
     let mut i: usize = 0;
     while i < 16 {
-        if number::bits_of(point[i]) != tree::read_u64(head, 48 + 8 * i) {
+        if number::bits_of(point[i]) != record::read_u64(head, 48 + 8 * i) {
             return false;
         }
         i += 1;
@@ -26,11 +26,11 @@ fn is_same(s: Solved, head: &[u8]) -> bool
 {
     let stop = s.stop;
     let short = (s.refusal == head[5])
-        & (nra::stop_number(stop) == head[6])
+        & (nra::answer::stop_number(stop) == head[6])
         & (s.exact == (head[7] == 1));
-    let long = (number::bits_of(s.residual) == tree::read_u64(head, 24))
-        & (s.halvings as u64 == tree::read_u64(head, 32))
-        & (s.count as u64 == tree::read_u64(head, 40));
+    let long = (number::bits_of(s.residual) == record::read_u64(head, 24))
+        & (s.halvings as u64 == record::read_u64(head, 32))
+        & (s.count as u64 == record::read_u64(head, 40));
     short & long & is_same_point(s, head)
 }
 
@@ -39,8 +39,8 @@ fn replays(file: &mut [u8], head: &[u8]) -> bool
     requires { ⌜ 176 ≤ length (now head) ⌝ }
 {
     let got = io::read_full(0, file);
-    let limit = tree::read_u64(head, 8) as usize;
-    let s = nra::solve_file(&file[..got], limit, tree::read_f64(head, 16));
+    let limit = record::read_u64(head, 8) as usize;
+    let s = nra::solve_file(&file[..got], limit, record::read_f64(head, 16));
     is_same(s, head)
 }
 
@@ -69,33 +69,10 @@ fn print_count(name: &[u8], c: Count) {
 
 // GtZero of Var 0 in these boxes: the refusal, or 0.
 fn boxes_refusal(lo: &mut [f64], hi: &mut [f64]) -> u8 {
-    let node = [2, 0, 0, 0, 0, 0, 0, 0, 0, 0, 0, 0, 0, 0, 0, 0];
-    let record = [
-        1,
-        0,
-        0,
-        0,
-        0,
-        0,
-        0,
-        0,
-        0,
-        0,
-        0,
-        0,
-        0,
-        0,
-        0,
-        0,
-        0,
-        0,
-        0,
-        0,
-        0,
-        0,
-        0,
-        0,
-    ];
+    let mut node = [0u8; 16];
+    node[0] = 2;
+    let mut record = [0u8; 24];
+    record[0] = 1;
     match narrow::propagate_given(&node, &record, lo, hi) {
         Propagated::Refused(number) => number,
         Propagated::Answered(_) => 0,
@@ -124,7 +101,7 @@ fn next_case(head: &mut [u8], file: &mut [u8]) -> Case
     if io::read_full(0, head) < 176 {
         return Case::End;
     }
-    let n = tree::read_u32(head, 0) as usize;
+    let n = record::read_u32(head, 0) as usize;
     if file.len() < n {
         return Case::End;
     }

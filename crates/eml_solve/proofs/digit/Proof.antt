@@ -6,12 +6,6 @@ use Rattle.number.specs.Notation.{if_then_else_}
 use Rattle.eml_solve.proofs.digit.Statement.{statement}
 use Rattle.eml_solve.proofs.digit.Tie as tie
 
-add-result : tie.Need-add-result
-add-result c = search needs
-
-add-result-2 : tie.Need-add-result-2
-add-result-2 c = search needs
-
 returns : tie.Need-returns
 unfolding if_then_else_
 returns c = rw (lt-ltb (c .before .args .d) 10 (c .if1 .taken))
@@ -21,4 +15,4 @@ unfolding if_then_else_
 returns-2 c = rw (le-ltb (c .before .args .d) 10 (omega (arith, c .if1 .left)))
 
 pub digit-spec : {M : Type 1} → statement M
-digit-spec = tie.close (tie.spec add-result add-result-2 returns returns-2)
+digit-spec = tie.close (tie.spec (λ c. search needs) (λ c. search needs) returns returns-2)

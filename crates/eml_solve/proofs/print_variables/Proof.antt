@@ -11,31 +11,10 @@ Inv-loop count point i₀ i = i ≤ count
 abbrev μ-loop : tie.MeasureT-loop
 μ-loop count point i₀ i = count - i
 
-loop-holds : tie.Need-loop-holds Inv-loop μ-loop
-loop-holds c = omega arith
-
-mul-print-variable : tie.Need-mul-print-variable Inv-loop μ-loop
-mul-print-variable c = omega arith
-
 array-read-print-variable : tie.Need-array-read-print-variable Inv-loop μ-loop
 array-read-print-variable c =
     let s = c .before .before in
     omega (arith, s .pre, c .loop-test .taken)
-
-print-variable-requires : tie.Need-print-variable-requires Inv-loop μ-loop
-print-variable-requires c κs = search needs
-
-add-i : tie.Need-add-i Inv-loop μ-loop
-add-i c = omega arith
-
-loop-less : tie.Need-loop-less Inv-loop μ-loop
-loop-less c = omega arith
-
-loop-again : tie.Need-loop-again Inv-loop μ-loop
-loop-again c = omega arith
-
-returns : tie.Need-returns Inv-loop μ-loop
-returns c = search needs
 
 pub print-variables-spec : {M : Type 1} → statement M
 print-variables-spec =
@@ -43,11 +22,11 @@ print-variables-spec =
     (tie.spec
     Inv-loop
     μ-loop
-    loop-holds
-    mul-print-variable
+    (λ c. omega arith)
+    (λ c. omega arith)
     array-read-print-variable
-    print-variable-requires
-    add-i
-    loop-less
-    loop-again
-    returns)
+    (λ c κs. search needs)
+    (λ c. omega arith)
+    (λ c. omega arith)
+    (λ c. omega arith)
+    (λ c. search needs))

@@ -18,15 +18,6 @@ loop-holds c = (refl, refl)
 next-case-requires : tie.Need-next-case-requires Inv-loop μ-loop
 next-case-requires c κs = omega (arith, c .before .before .before .before .before .before .before .pre, c .before .before .before .before .loop .inv .0)
 
-and-requires : tie.Need-and-requires Inv-loop μ-loop
-and-requires c κs = search needs
-
-sub-turns : tie.Need-sub-turns Inv-loop μ-loop
-sub-turns c = omega arith
-
-loop-less : tie.Need-loop-less Inv-loop μ-loop
-loop-less c = omega arith
-
 loop-again : tie.Need-loop-again Inv-loop μ-loop
 loop-again c =
     let p₁ = c .before .before .before .before .before in
@@ -39,17 +30,11 @@ same-length c = c .before .before .loop .inv .0
 same-length-2 : tie.Need-same-length-2 Inv-loop μ-loop
 same-length-2 c = c .before .before .loop .inv .1
 
-returns : tie.Need-returns Inv-loop μ-loop
-returns c = search needs
-
 same-length-3 : tie.Need-same-length-3 Inv-loop μ-loop
 same-length-3 c = c .before .loop .inv .0
 
 same-length-4 : tie.Need-same-length-4 Inv-loop μ-loop
 same-length-4 c = c .before .loop .inv .1
-
-returns-2 : tie.Need-returns-2 Inv-loop μ-loop
-returns-2 c = search needs
 
 pub replay-all-spec : {M : Type 1} → statement M
 replay-all-spec =
@@ -59,13 +44,13 @@ replay-all-spec =
     μ-loop
     loop-holds
     next-case-requires
-    and-requires
-    sub-turns
-    loop-less
+    (λ c κs. search needs)
+    (λ c. omega arith)
+    (λ c. omega arith)
     loop-again
     same-length
     same-length-2
-    returns
+    (λ c. search needs)
     same-length-3
     same-length-4
-    returns-2)
+    (λ c. search needs))

@@ -1,26 +1,12 @@
--- `eml_gt` meets its contract: the answer as a number, the list and the output as the call left them. Assumes nothing.
-use mathlib.Core.Path.{ap}
+-- `eml_gt` meets its contract. Assumes nothing.
 use borrow.Author.Needs.{needs}
-use Rattle.eml.specs.Exported.{comparison}
 use Rattle.eml.proofs.canonical.eml_gt.Statement.{statement}
 use Rattle.eml.proofs.canonical.eml_gt.Tie as tie
 
-gt-requires : tie.Need-gt-requires
-gt-requires c κs = search needs
-
-number-of-requires : tie.Need-number-of-requires
-number-of-requires c κs = search needs
-
-same-length : tie.Need-same-length
-same-length c = search needs
-
-same-length-2 : tie.Need-same-length-2
-same-length-2 c = search needs
-
 returns : tie.Need-returns
-returns c = rw (c .number-of .ensures) (ap comparison (c .before .before .before .before .before .gt .ensures))
+returns c = rw (c .number-of .ensures, ← c .before .before .before .before .before .gt .ensures)
 
 pub eml-gt-spec : {M : Type 1} → statement M
 eml-gt-spec =
     tie.close
-    (tie.spec gt-requires number-of-requires same-length same-length-2 returns)
+    (tie.spec (λ c κs. search needs) (λ c κs. search needs) (λ c. search needs) (λ c. search needs) returns)

@@ -1,21 +1,13 @@
--- `eml_check` meets its contract: the answer's two parts. Assumes nothing.
+-- `eml_check` meets its contract. Assumes nothing.
 use borrow.Author.Needs.{needs}
 use Rattle.eml.proofs.points.eml_check.Statement.{statement}
 use Rattle.eml.proofs.points.eml_check.Tie as tie
 
-check-constraint-requires : tie.Need-check-constraint-requires
-check-constraint-requires c κs = search needs
-
-checked-or-requires : tie.Need-checked-or-requires
-checked-or-requires c κs = search needs
-
-check-number-requires : tie.Need-check-number-requires
-check-number-requires c κs = search needs
-
 returns : tie.Need-returns
-returns c = rw (c .check-number .ensures, c .before .checked-or .ensures, c .before .before .check-constraint .ensures)
+returns c = rw (← c .before .before .before .check-constraint .ensures, c .before .number .given .1)
+
+returns-2 : tie.Need-returns-2
+returns-2 c = rw (← c .before .before .before .check-constraint .ensures, c .before .b .given .1)
 
 pub eml-check-spec : {M : Type 1} → statement M
-eml-check-spec =
-    tie.close
-    (tie.spec check-constraint-requires checked-or-requires check-number-requires returns)
+eml-check-spec = tie.close (tie.spec (λ c κs. search needs) (λ c. search needs) (λ c. search needs) returns returns-2)

@@ -6,8 +6,8 @@ use native.Mathlib.Omega.{arith}
 use lib.ListN.{length, getD, set}
 use lib.Ieee.{Float, nan}
 use lib.Seq.{paste, paste-zero, paste-suc, length-paste}
-use Rattle.eml.proofs.solving.write_point.Statement.{statement}
-use Rattle.eml.proofs.solving.write_point.Tie as tie
+use Rattle.eml.proofs.values.write_point.Statement.{statement}
+use Rattle.eml.proofs.values.write_point.Tie as tie
 
 module _ (d s l : List Float) (j : ℕ) (copied : l ≡ paste d 0 s j) where
   size : j ≤ length d → j ≤ length s → length l ≡ length d
@@ -30,28 +30,16 @@ loop-holds c =
     let s = c in
     (omega arith, paste-zero (s .args .point .now) 0 (s .args .t1))
 
-mul-point : tie.Need-mul-point Inv-loop μ-loop
-mul-point c = omega arith
-
 array-read-point : tie.Need-array-read-point Inv-loop μ-loop
 array-read-point c =
     let s = c .before .before in
     omega (arith, s .pre .0, c .loop-test .taken)
-
-mul-point-2 : tie.Need-mul-point-2 Inv-loop μ-loop
-mul-point-2 c = omega arith
 
 slice-write-point : tie.Need-slice-write-point Inv-loop μ-loop
 slice-write-point c =
     let s = c .before .before in
     let l = c .before .loop .inv in
     omega (arith, s .pre, l .0, c .loop-test .taken, size (s .args .point .now) (s .args .t1) (c .before .loop .point) (c .before .loop .i) (l .1) (omega (arith, s .pre .1)) (omega (arith, s .pre .0)))
-
-add-i : tie.Need-add-i Inv-loop μ-loop
-add-i c = omega arith
-
-loop-less : tie.Need-loop-less Inv-loop μ-loop
-loop-less c = omega arith
 
 loop-again : tie.Need-loop-again Inv-loop μ-loop
 loop-again c =
@@ -78,12 +66,12 @@ write-point-spec =
     Inv-loop
     μ-loop
     loop-holds
-    mul-point
+    (λ c. omega arith)
     array-read-point
-    mul-point-2
+    (λ c. omega arith)
     slice-write-point
-    add-i
-    loop-less
+    (λ c. omega arith)
+    (λ c. omega arith)
     loop-again
     same-length
     returns)
