@@ -18,6 +18,11 @@ abbrev pub _unless_ : ℕ → Bool → ℕ
 r unless true = 0
 r unless false = r
 
+-- what a call yields that is refused with r, or else its answer
+abbrev pub refusedOr : {A : Type 0} → ℕ → (ℕ → A) → A → A
+refusedOr zero refused answer = answer
+refusedOr (suc r) refused answer = refused (suc r)
+
 -- the first refusal of the records 0 .. n - 1, each with its own
 unfoldable pub first : (ℕ → ℕ) → ℕ → ℕ
 first refusal zero = 0

@@ -12,7 +12,7 @@ use lib.Dec.{eqb}
 use lib.ListN.{length, getD, set, length-set}
 use lib.Seq.{getD-set-same, getD-set-other}
 use Rattle.number.specs.Notation.{if_then_else_}
-use Rattle.record.specs.Refusal.{_or-else_, _unless_, first, passing, filled}
+use Rattle.record.specs.Refusal.{_or-else_, _unless_, refusedOr, first, passing, filled}
 
 -- ---- two tests
 pub both : (a b : Bool) → (a && b) ≡ true → (a ≡ true) × (b ≡ true)
@@ -34,6 +34,10 @@ or-else-none a r e = sym (ap (λ (x : ℕ). x or-else r) e)
 pub none-unless : (r : ℕ) (t : Bool) → (suc r unless t) ≡ 0 → t ≡ true
 none-unless r true e = refl
 none-unless r false e = absurd (omega arith)
+
+pub refused-or : {A : Type 0} (r : ℕ) (refused : ℕ → A) (answer : A) → (r ≡ 0 → ⊥) → refusedOr r refused answer ≡ refused r
+refused-or zero refused answer h = absurd (h refl)
+refused-or (suc r) refused answer h = refl
 
 -- ---- n records
 module _ (f : ℕ → ℕ) where
