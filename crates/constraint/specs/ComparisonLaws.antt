@@ -1,6 +1,6 @@
 -- What a comparison writes is the Rust's constraint: the atom on x - y. Assumes nothing.
-use Prim.Native.Nat.{ℕ, zero, suc, _+_, _*_, _≤_, _<_}
-use mathlib.Core.Path.{_≡_, refl, sym, ap, _∙_}
+use Prim.Native.Nat.{ℕ, _+_, _*_, _≤_, _<_}
+use mathlib.Core.Path.{_≡_, sym, ap, _∙_}
 use mathlib.Core.Bool.{true}
 use mathlib.Core.List.{List}
 use native.Mathlib.Nat.{zero-add}
@@ -9,21 +9,21 @@ use borrow.Author.Tests.{leb-true}
 use lib.Dec.{leb}
 use lib.ListN.{length, getD}
 use lib.Seq.{sets}
-use Rattle.record.specs.Leaving.{Leaving, _leaving_}
+use Rattle.record.specs.Leaving.{_leaving_, same-answer, same-places}
 use Rattle.record.specs.Refusal.{first}
-use Rattle.record.specs.RefusalLaws.{none-both, none-unless}
+use Rattle.record.specs.RefusalLaws.{none-both, none-unless, not-refused}
 use Rattle.record.specs.ByteLaws.{sets-at}
 use Rattle.tree.specs.Tree.{Tree}
 use Rattle.tree.specs.Nodes.{treeAt}
 use Rattle.tree.specs.Encoding.{nodesBytes}
 use Rattle.tree.specs.Canonical.{subNodes, subRefusal, subTree, sub, append}
-use Rattle.tree.specs.CanonicalLaws.{Means, sub-accepted, sub-appends}
+use Rattle.tree.specs.CanonicalLaws.{Means, sub-accepted, sub-appends, refused-at}
 use Rattle.tree.specs.declared.Appended.{Appended}
 use Rattle.constraint.specs.Constraint.{Atom, mapFormula, levels, quantifiers}
 use Rattle.constraint.specs.Records.{recordAt, isRecord, finish, finished, formulaAt, constraintAt, recordRefusal, recordsRefusal}
 use Rattle.constraint.specs.Writing.{length-record, record-same, is-record-same, read-back, is-record}
 use Rattle.constraint.specs.Encoding.{recordBytes}
-use Rattle.constraint.specs.Comparison.{compareRefusal, comparedBy, compared}
+use Rattle.constraint.specs.Comparison.{compareRefusal, compared}
 use Rattle.constraint.specs.declared.Relation.{Relation}
 use Rattle.constraint.specs.declared.Record.{Record}
 
@@ -62,20 +62,6 @@ pub record Compares (rel : Relation) (b c o : List ℕ) (n k : ℕ) (t : Tree) :
   pub written-is : constraintAt c o 0 ≡ Atom rel t
   pub accepted : recordsRefusal (k + 1) o 1 ≡ 0
 
-abbrev Outcome : Type 0
-Outcome = Leaving Appended (List ℕ × List ℕ)
-
-abbrev answered : Outcome → Appended
-answered w = w .answer
-
-outcome : (r : ℕ) (rel : Relation) (b : List ℕ) (n x y : ℕ) (out : List ℕ) (k : ℕ) (c o : List ℕ) → comparedBy r rel b n x y out ≡ (Appended.At k leaving (c, o)) →
-    (r ≡ 0) × (n + 6 ≡ k) × (sets b (16 * n) (nodesBytes (subNodes n x y)) ≡ c) × (sets out 0 (recordBytes (Record.Atom rel (n + 6))) ≡ o)
-outcome zero rel b n x y out k c o e = let a = ap answered e in (refl, cc, ap (λ (w : Outcome). w .places .0) e, ap (λ (w : Outcome). w .places .1) e)
-outcome (suc r) rel b n x y out k c o e =
-    let a = ap answered e in
-    let z : _≡_ {A = ℕ} 0 1 = cc in
-    absurd (omega arith)
-
 module _ (rel : Relation) (b : List ℕ) (n x y : ℕ) (out : List ℕ) where
   no-refusal : compareRefusal b n x y out ≡ 0 → (subRefusal b n x y ≡ 0) × (24 ≤ length out)
   unfolding compareRefusal
@@ -88,10 +74,12 @@ module _ (rel : Relation) (b : List ℕ) (n x y : ℕ) (out : List ℕ) where
   pub compares : (k : ℕ) (c o : List ℕ) → compared rel b n x y out ≡ (Appended.At k leaving (c, o)) → Compares rel b c o n k (subTree (treeAt b x) (treeAt b y))
   unfolding compared
   compares k c o e =
-      let w = outcome (compareRefusal b n x y out) rel b n x y out k c o e in
+      let w = not-refused (compareRefusal b n x y out) _ _ (λ m. refused-at) e in
+      let at : n + 6 ≡ k = cc (same-answer (w .1)) in
+      let places = same-places (w .1) in
       let f = no-refusal (w .0) in
       let a = sub-accepted b n x y (f .0) in
       let l = sets b (16 * n) (nodesBytes (subNodes n x y)) in
       let m = sub-appends b n x y (n + 6) l (as-sub (f .0)) in
       let s = alone rel (n + 6) out (omega arith) (f .1) l (n + 6 + 1) (omega (arith, a .2 .few)) (omega arith) in
-      rw (← w .1, ← w .2, ← w .3) (record { appended = m; written-is = s .0 ∙ ap (Atom rel) (m .result); accepted = s .1 })
+      rw (← at, ← ap (λ (l : List ℕ × List ℕ). l .0) places, ← ap (λ (l : List ℕ × List ℕ). l .1) places) (record { appended = m; written-is = s .0 ∙ ap (Atom rel) (m .result); accepted = s .1 })

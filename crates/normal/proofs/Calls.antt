@@ -1,7 +1,6 @@
 -- The loop that counts, and the ways out of the call on records that are given. Assumes nothing.
 use Prim.Native.Nat.{ℕ, zero, suc, _+_, _-_, _*_, _/_, _≤_, _<_}
 use mathlib.Core.Path.{_≡_, refl, sym, ap, ap₂, _∙_}
-use mathlib.Core.Bool.{Bool}
 use mathlib.Core.List.{List}
 use native.Mathlib.Nat.{zero-add}
 use native.Mathlib.Numerals.{add-one}
@@ -10,14 +9,14 @@ use borrow.Author.Tests.{lt-leb, le-leb}
 use lib.Dec.{leb}
 use lib.ListN.{length}
 use Rattle.record.specs.Leaving.{_leaving_}
-use Rattle.record.specs.Refusal.{_or-else_, _unless_}
+use Rattle.record.specs.Refusal.{_unless_}
 use Rattle.constraint.specs.declared.Record.{Record}
 use Rattle.constraint.specs.Records.{recordAt}
 use Rattle.constraint.specs.Code.{Puts}
 use Rattle.file.specs.File.{givenRefusal}
 use Rattle.file.specs.FileLaws.{passed-given}
 use Rattle.normal.specs.Written.{nnfAt}
-use Rattle.normal.specs.Given.{keptOf, countKept, nnfRecords, nnfRefusal, written, toNnfGiven}
+use Rattle.normal.specs.Given.{keptOf, countKept, nnfRecords, nnfRefusal, toNnfGiven}
 use Rattle.normal.specs.Counting.{nnf-count}
 use Rattle.normal.specs.declared.Nnf.{Nnf}
 
@@ -27,21 +26,10 @@ kept-next b k e f g = ap₂ (λ (c x : ℕ). c + x) e (g ∙ ap keptOf f) ∙ ap
 
 -- ---- the call
 module _ (nodes b out : List ℕ) where
-  by : (r : ℕ) → nnfRefusal nodes b out ≡ r → written r (nnfRecords b (length b / 24)) out ≡ toNnfGiven nodes b out
-  unfolding toNnfGiven
-  by r e = ap (λ (n : ℕ). written n (nnfRecords b (length b / 24)) out) (sym e)
-
-  refused : (r : ℕ) (rs : List Record) → (r ≡ 0 → ⊥) → (Nnf.Refused r leaving out) ≡ written r rs out
-  refused zero rs h = absurd (h refl)
-  refused (suc r) rs h = refl
-
-  first-refusal : (g x r : ℕ) → r ≡ g → (r ≡ 0 → ⊥) → (g or-else x) ≡ r
-  first-refusal zero x r e h = absurd (h e)
-  first-refusal (suc g) x r e h = sym e
-
   pub records-refused : (r : ℕ) → r ≡ givenRefusal nodes b → (r ≡ 0 → ⊥) → (Nnf.Refused r leaving out) ≡ toNnfGiven nodes b out
-  unfolding nnfRefusal
-  records-refused r e h = refused r (nnfRecords b (length b / 24)) h ∙ by r (first-refusal (givenRefusal nodes b) _ r e h)
+  unfolding toNnfGiven nnfRefusal
+  records-refused zero e h = absurd (h refl)
+  records-refused (suc r) e h = rw (← e)
 
   module _ (e : givenRefusal nodes b ≡ 0) where
     counted : length (nnfRecords b (length b / 24)) ≡ countKept b (length b / 24)
@@ -53,14 +41,13 @@ module _ (nodes b out : List ℕ) where
 
     module _ {c : ℕ} (f : c ≡ countKept b (length b / 24)) where
       pub too-short : length out < 24 * c → (Nnf.Refused 10 leaving out) ≡ toNnfGiven nodes b out
-      too-short h = by 10 (refusal-is ∙ ap (λ (t : Bool). 10 unless t) (lt-leb (24 * countKept b (length b / 24)) (length out) (omega arith)))
+      unfolding toNnfGiven
+      too-short h = rw (refusal-is, lt-leb (24 * countKept b (length b / 24)) (length out) (omega arith))
 
       pub room : 24 * c ≤ length out → 24 * (0 + length (nnfAt b (length b / 24 - 1))) ≤ length out
       unfolding nnfRecords nnfAt
       room h = omega (arith, counted)
 
       pub wrote : {new : List ℕ} {n : ℕ} → 24 * c ≤ length out → Puts out new 0 n (nnfAt b (length b / 24 - 1)) → (Nnf.Records n leaving new) ≡ toNnfGiven nodes b out
-      unfolding nnfRecords nnfAt
-      wrote h q =
-          ap₂ (λ (n : ℕ) (l : List ℕ). Nnf.Records n leaving l) (q .counted ∙ zero-add _) (q .put)
-          ∙ by 0 (refusal-is ∙ ap (λ (t : Bool). 10 unless t) (le-leb (24 * countKept b (length b / 24)) (length out) (omega arith)))
+      unfolding toNnfGiven nnfRecords nnfAt
+      wrote h q = rw (refusal-is, le-leb (24 * countKept b (length b / 24)) (length out) (omega arith), q .counted ∙ zero-add _, q .put)

@@ -5,7 +5,7 @@ use lib.Dec.{leb}
 use lib.ListN.{length}
 use lib.Seq.{sets}
 use Rattle.record.specs.Leaving.{Leaving, _leaving_}
-use Rattle.record.specs.Refusal.{_or-else_, _unless_}
+use Rattle.record.specs.Refusal.{_or-else_, _unless_, refusedOr}
 use Rattle.constraint.specs.declared.Record.{Record}
 use Rattle.constraint.specs.Records.{recordAt, formulaAt}
 use Rattle.constraint.specs.Encoding.{recordsBytes, recordsOf}
@@ -35,9 +35,7 @@ unfoldable pub nnfRefusal : List ℕ → List ℕ → List ℕ → ℕ
 nnfRefusal nodes b out = givenRefusal nodes b or-else 10 unless leb (24 * length (nnfRecords b (length b / 24))) (length out)
 
 -- the answer, and the output at exit: a refusal alters nothing; else the number of records, written from the start, and the places past the last one stay
-abbrev pub written : ℕ → List Record → List ℕ → Leaving Nnf (List ℕ)
-written (suc r) rs out = Nnf.Refused (suc r) leaving out
-written zero rs out = Nnf.Records (length rs) leaving sets out 0 (recordsBytes rs)
-
 unfoldable pub toNnfGiven : List ℕ → List ℕ → List ℕ → Leaving Nnf (List ℕ)
-toNnfGiven nodes b out = written (nnfRefusal nodes b out) (nnfRecords b (length b / 24)) out
+toNnfGiven nodes b out =
+    let rs = nnfRecords b (length b / 24) in
+    refusedOr (nnfRefusal nodes b out) (λ r. Nnf.Refused r leaving out) (Nnf.Records (length rs) leaving sets out 0 (recordsBytes rs))

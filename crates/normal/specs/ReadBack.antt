@@ -1,6 +1,6 @@
 -- What `to_nnf` writes, read again, is the normal form of the constraint that was given. Assumes nothing.
-use Prim.Native.Nat.{ℕ, zero, suc, _+_, _*_, _-_, _/_, _%_, _≤_}
-use mathlib.Core.Path.{_≡_, refl, sym, ap, _∙_}
+use Prim.Native.Nat.{ℕ, _+_, _*_, _-_, _/_, _%_, _≤_}
+use mathlib.Core.Path.{_≡_, sym, ap, _∙_}
 use mathlib.Core.Bool.{true, _&&_}
 use mathlib.Core.List.{List, [], _++_}
 use native.Mathlib.Omega.{arith}
@@ -8,8 +8,8 @@ use borrow.Author.Tests.{leb-true, le-leb}
 use lib.Dec.{leb, eqb}
 use lib.ListN.{length, take, drop}
 use lib.Seq.{sets, sets-eq, take-append-seam}
-use Rattle.record.specs.Leaving.{Leaving, _leaving_}
-use Rattle.record.specs.RefusalLaws.{both, none-both, none-unless}
+use Rattle.record.specs.Leaving.{_leaving_, same-answer, same-places}
+use Rattle.record.specs.RefusalLaws.{both, none-both, none-unless, not-refused}
 use Rattle.tree.specs.Nodes.{treeAt}
 use Rattle.constraint.specs.declared.Record.{Record}
 use Rattle.constraint.specs.Constraint.{Formula, Constraint, levels, quantifiers}
@@ -23,7 +23,7 @@ use Rattle.file.specs.File.{Accepted, left, isCounted, givenRefusal, readGiven}
 use Rattle.file.specs.FileLaws.{passed-given, counted, given-is}
 use Rattle.normal.specs.NormalForm.{toNnf}
 use Rattle.normal.specs.NormalLaws.{nnf-map, nnf-levels, nnf-quantifiers, nnf-fitting}
-use Rattle.normal.specs.Given.{nnfRecords, nnfRefusal, written, toNnfGiven}
+use Rattle.normal.specs.Given.{nnfRecords, nnfRefusal, toNnfGiven}
 use Rattle.normal.specs.Counting.{kept-few, nnf-count}
 use Rattle.normal.specs.declared.Nnf.{Nnf}
 
@@ -106,16 +106,8 @@ module _ (nodes b : List ℕ) (e : givenRefusal nodes b ≡ 0) where
   read-again = given-is nodes new accepted ∙ rw (length-new, formula-is, nnf-map (treeAt nodes) c)
 
 -- ---- what a caller receives: the first m records of the output
-abbrev answered : Leaving Nnf (List ℕ) → Nnf
-answered w = w .answer
-
-outcome : (r : ℕ) (rs : List Record) (out : List ℕ) (m : ℕ) (o : List ℕ) → written r rs out ≡ (Nnf.Records m leaving o) →
-    (r ≡ 0) × (length rs ≡ m) × (sets out 0 (recordsBytes rs) ≡ o)
-outcome zero rs out m o e = let a = ap answered e in (refl, cc, ap (λ (w : Leaving Nnf (List ℕ)). w .places) e)
-outcome (suc r) rs out m o e =
-    let a = ap answered e in
-    let z : _≡_ {A = ℕ} 0 1 = cc in
-    absurd (omega arith)
+refused-records : {x y : List ℕ} {r m : ℕ} → (Nnf.Refused r leaving x) ≡ (Nnf.Records m leaving y) → ⊥
+refused-records e = let z : _≡_ {A = ℕ} 0 1 = cc (same-answer e) in omega arith
 
 module _ (nodes b out : List ℕ) where
   no-refusal : nnfRefusal nodes b out ≡ 0 → (givenRefusal nodes b ≡ 0) × (24 * length (nnfRecords b (length b / 24)) ≤ length out)
@@ -136,7 +128,8 @@ module _ (nodes b out : List ℕ) where
       readGiven nodes (take (24 * m) o) ≡ Accepted (toNnf c) []
   unfolding toNnfGiven
   reads-back c m o r e =
-      let w = outcome (nnfRefusal nodes b out) (nnfRecords b (length b / 24)) out m o e in
+      let w = not-refused (nnfRefusal nodes b out) _ _ (λ r. refused-records) e in
+      let count : length (nnfRecords b (length b / 24)) ≡ m = cc (same-answer (w .1)) in
       let f = no-refusal (w .0) in
       let k : left nodes b (length b / 24) ≡ c = cc (given-is nodes b (f .0), r) in
-      rw (← w .1, ← w .2, first-records (nnfRecords b (length b / 24)) (f .1)) (read-again nodes b (f .0) ∙ ap (λ (d : Constraint). Accepted (toNnf d) []) k)
+      rw (← count, ← same-places (w .1), first-records (nnfRecords b (length b / 24)) (f .1)) (read-again nodes b (f .0) ∙ ap (λ (d : Constraint). Accepted (toNnf d) []) k)

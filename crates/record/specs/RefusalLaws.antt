@@ -39,6 +39,11 @@ pub refused-or : {A : Type 0} (r : ℕ) (refused : ℕ → A) (answer : A) → (
 refused-or zero refused answer h = absurd (h refl)
 refused-or (suc r) refused answer h = refl
 
+-- what no refusal yields was answered
+pub not-refused : {A : Type 0} (r : ℕ) (refused : ℕ → A) (answer : A) {x : A} → ((n : ℕ) → refused n ≡ x → ⊥) → refusedOr r refused answer ≡ x → (r ≡ 0) × (answer ≡ x)
+not-refused zero refused answer h e = (refl, e)
+not-refused (suc r) refused answer h e = absurd (h (suc r) e)
+
 -- ---- n records
 module _ (f : ℕ → ℕ) where
   pub none-more : (k : ℕ) → first f k ≡ 0 → f k ≡ 0 → first f (k + 1) ≡ 0

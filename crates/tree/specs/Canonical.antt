@@ -1,11 +1,11 @@
 -- `Canonical::ln` and `Canonical::sub` (canonical.rs) on a list of nodes: their trees, the nodes that they append, and their refusals.
-use Prim.Native.Nat.{ℕ, zero, suc, _+_, _*_}
+use Prim.Native.Nat.{ℕ, _+_, _*_}
 use mathlib.Core.Bool.{Bool, _&&_}
 use mathlib.Core.List.{List, [], _∷_, _++_}
 use lib.Dec.{ltb}
 use lib.ListN.{length}
 use lib.Seq.{sets}
-use Rattle.record.specs.Refusal.{_or-else_, _unless_}
+use Rattle.record.specs.Refusal.{_or-else_, _unless_, refusedOr}
 use Rattle.record.specs.Leaving.{Leaving, _leaving_}
 use Rattle.tree.specs.Tree.{Tree, isSmall}
 use Rattle.tree.specs.Nodes.{nodesFit, treeAt, listRefusal}
@@ -45,8 +45,7 @@ subRefusal b n x y = appendRefusal b n (ltb x n && ltb y n) (subTree (treeAt b x
 -- ---- the answer, and the list at exit
 -- a refusal returns its number and alters nothing; else the number of the last node appended
 abbrev pub append : ℕ → List ℕ → ℕ → List Node → ℕ → Leaving Appended (List ℕ)
-append (suc r) b n ns last = Appended.Refused (suc r) leaving b
-append zero b n ns last = Appended.At last leaving sets b (16 * n) (nodesBytes ns)
+append refusal b n ns last = refusedOr refusal (λ r. Appended.Refused r leaving b) (Appended.At last leaving sets b (16 * n) (nodesBytes ns))
 
 unfoldable pub ln : List ℕ → ℕ → ℕ → Leaving Appended (List ℕ)
 ln b n x = append (lnRefusal b n x) b n (lnNodes n x) (n + 3)

@@ -1,5 +1,5 @@
 -- What `ln` and `sub` append is the Rust's tree, on a list whose older trees stay. Assumes nothing.
-use Prim.Native.Nat.{ℕ, zero, suc, _+_, _*_, _≤_, _<_}
+use Prim.Native.Nat.{ℕ, _+_, _*_, _≤_, _<_}
 use mathlib.Core.Path.{_≡_, refl, sym, ap, ap₂, _∙_, subst, subst₂}
 use mathlib.Core.Bool.{Bool, true, _&&_}
 use mathlib.Core.List.{List}
@@ -10,7 +10,7 @@ use lib.Dec.{ltb}
 use lib.ListN.{length, getD}
 use lib.Seq.{sets, length-sets}
 use Rattle.record.specs.Refusal.{_unless_}
-use Rattle.record.specs.RefusalLaws.{both, none-both, none-unless}
+use Rattle.record.specs.RefusalLaws.{both, none-both, none-unless, not-refused}
 use Rattle.tree.specs.Tree.{Tree, size, depth, isSmall}
 use Rattle.tree.specs.Nodes.{isNode, treeAt, nodeRefusal, nodesFit, listRefusal, Valid}
 use Rattle.record.specs.ByteLaws.{sets-before}
@@ -150,10 +150,12 @@ module _ (b : List ℕ) (n x y : ℕ) (e : subRefusal b n x y ≡ 0) where
       record { result = r .1; older = old; valid = subst (Valid c) (omega arith) (r .0) }
 
 -- ---- the two calls, by their outcome
+pub refused-at : {A : Type 0} {x y : A} {r k : ℕ} → (Appended.Refused r leaving x) ≡ (Appended.At k leaving y) → ⊥
+refused-at e = let z : _≡_ {A = ℕ} 0 1 = cc (same-answer e) in omega arith
+
 appended : (r : ℕ) (b : List ℕ) (n : ℕ) (xs : List Node) (last k : ℕ) (c : List ℕ) → append r b n xs last ≡ (Appended.At k leaving c) →
     (r ≡ 0) × (last ≡ k) × (sets b (16 * n) (nodesBytes xs) ≡ c)
-appended zero b n xs last k c e = (refl, cc (same-answer e), same-places e)
-appended (suc r) b n xs last k c e = let z : _≡_ {A = ℕ} 0 1 = cc (same-answer e) in absurd (omega arith)
+appended r b n xs last k c e = let w = not-refused r _ _ (λ m. refused-at) e in (w .0, cc (same-answer (w .1)), same-places (w .1))
 
 pub ln-appends : (b : List ℕ) (n x k : ℕ) (c : List ℕ) → ln b n x ≡ (Appended.At k leaving c) → Means b c n k (lnTree (treeAt b x))
 unfolding ln
