@@ -78,7 +78,7 @@ pub fn record_in(constraints: &[u8], k: usize) -> Record
 }
 
 // Whether record k is a constraint's, over count nodes.
-pub fn is_record(count: usize, constraints: &[u8], k: usize) -> bool
+pub fn is_record(constraints: &[u8], k: usize, count: usize) -> bool
     requires { ⌜ 24 * k + 24 ≤ length (now constraints) ⌝ }
     ensures { λ r. ⌜ r ≡ isRecord count (old constraints) k ⌝ }
 {
@@ -193,7 +193,7 @@ fn first_of(a: &[u8; 256], base: usize, top: usize, k: usize) -> usize
 
 // Each of n records over count nodes: 5, 6, then 7; then 7 unless just one constraint is left. The depth, the
 // quantifiers and the first record of each finished constraint are on a stack; `starts` gets the first record of each that passes.
-pub fn test_records(count: usize, constraints: &[u8], n: usize, starts: &mut [usize; 256]) -> u8
+pub fn test_records(constraints: &[u8], n: usize, count: usize, starts: &mut [usize; 256]) -> u8
     requires { ⌜ (n ≤ 256) × (24 * n ≤ length (now constraints)) × (length (now starts) ≡ 256) ⌝ }
     ensures { λ r. ⌜ r ≡ recordsRefusal count (old constraints) n ⌝ }
     ensures { λ _. ⌜ final starts ≡ startsOf count (old constraints) n (old starts) ⌝ }
@@ -204,7 +204,7 @@ pub fn test_records(count: usize, constraints: &[u8], n: usize, starts: &mut [us
     let mut top: usize = 0;
     let mut k: usize = 0;
     while k < n {
-        if !is_record(count, constraints, k) {
+        if !is_record(constraints, k, count) {
             return 5;
         }
         let r = record_in(constraints, k);
@@ -352,11 +352,11 @@ pub fn write_record(out: &mut [u8], at: usize, r: Record) -> usize
 
 // x - y is appended to the list of count nodes, and the atom's record on it is written to out.
 fn compare(
-    rel: Relation,
     nodes: &mut [u8],
     count: usize,
     x: usize,
     y: usize,
+    rel: Relation,
     out: &mut [u8],
 ) -> Appended
     ensures { λ r. ⌜ (r leaving (final nodes, final out)) ≡ compared rel (old nodes) count x y (old out) ⌝ }
@@ -378,26 +378,26 @@ fn compare(
 pub fn lt(nodes: &mut [u8], count: usize, x: usize, y: usize, out: &mut [u8]) -> Appended
     ensures { λ r. ⌜ (r leaving (final nodes, final out)) ≡ compared Relation.LtZero (old nodes) count x y (old out) ⌝ }
 {
-    compare(Relation::LtZero, nodes, count, x, y, out)
+    compare(nodes, count, x, y, Relation::LtZero, out)
 }
 
 // x <= y
 pub fn le(nodes: &mut [u8], count: usize, x: usize, y: usize, out: &mut [u8]) -> Appended
     ensures { λ r. ⌜ (r leaving (final nodes, final out)) ≡ compared Relation.LeZero (old nodes) count x y (old out) ⌝ }
 {
-    compare(Relation::LeZero, nodes, count, x, y, out)
+    compare(nodes, count, x, y, Relation::LeZero, out)
 }
 
 // x > y
 pub fn gt(nodes: &mut [u8], count: usize, x: usize, y: usize, out: &mut [u8]) -> Appended
     ensures { λ r. ⌜ (r leaving (final nodes, final out)) ≡ compared Relation.GtZero (old nodes) count x y (old out) ⌝ }
 {
-    compare(Relation::GtZero, nodes, count, x, y, out)
+    compare(nodes, count, x, y, Relation::GtZero, out)
 }
 
 // x >= y
 pub fn ge(nodes: &mut [u8], count: usize, x: usize, y: usize, out: &mut [u8]) -> Appended
     ensures { λ r. ⌜ (r leaving (final nodes, final out)) ≡ compared Relation.GeZero (old nodes) count x y (old out) ⌝ }
 {
-    compare(Relation::GeZero, nodes, count, x, y, out)
+    compare(nodes, count, x, y, Relation::GeZero, out)
 }

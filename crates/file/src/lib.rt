@@ -135,7 +135,7 @@ fn test_bodies(file: &[u8], starts: &mut [usize; 256]) -> u8
         return first;
     }
     let n = constraint_count(file);
-    let second = constraint::test_records(count, constraints_of(file), n, starts);
+    let second = constraint::test_records(constraints_of(file), n, count, starts);
     if second != 0 {
         return second;
     }
@@ -173,7 +173,7 @@ pub fn test_sized(nodes: &[u8], constraints: &[u8], starts: &mut [usize; 256]) -
         if t.refusal != 0 {
             return t;
         }
-        let refusal = constraint::test_records(count, constraints, n, starts);
+        let refusal = constraint::test_records(constraints, n, count, starts);
         let largest = t.largest;
         return Tested { refusal, largest };
     }

@@ -1,13 +1,13 @@
 -- The ways out of a call on records and boxes that are given: what a function that tests them cites. Assumes nothing.
-use Prim.Native.Nat.{ℕ, zero, suc, _/_}
+use Prim.Native.Nat.{ℕ, _/_}
 use mathlib.Core.Path.{_≡_, refl, sym, ap, _∙_}
 use mathlib.Core.Bool.{Bool, true, false}
 use mathlib.Core.List.{List, [], _∷_}
 use lib.ListN.{length}
 use Rattle.record.specs.Leaving.{Leaving, _leaving_}
 use Rattle.constraint.specs.Constraint.{Constraint}
-use Rattle.file.specs.File.{left, Read, readBy, givenRefusal, readGiven}
-use Rattle.file.specs.FileLaws.{given-is}
+use Rattle.file.specs.File.{left, Read, givenRefusal, readGiven}
+use Rattle.file.specs.FileLaws.{given-refused, given-is}
 use Rattle.narrow.specs.declared.Propagated.{Propagated}
 use Rattle.narrow.specs.declared.Propagated.the-variants.{Refused}
 use Rattle.interval.specs.declared.Interval.{Interval}
@@ -21,14 +21,9 @@ of-ends [] = refl
 of-ends (i ∷ is) = ap (λ (r : List Interval). i ∷ r) (of-ends is)
 
 module _ {B : Type 0} (nodes constraints : List ℕ) (b : B) (next : Constraint → Leaving Propagated B) where
-  refused-by : (r s : ℕ) (t : Bool) (x : Read) → r ≡ s → (r ≡ 0 → ⊥) → (Refused r leaving b) ≡ tested (readBy s x) t b next
-  unfolding tested
-  refused-by r zero t x e h = absurd (h e)
-  refused-by r (suc s) t x e h = ap (λ (n : ℕ). Refused n leaving b) e
-
   pub records-refused : (r : ℕ) (t : Bool) → r ≡ givenRefusal nodes constraints → (r ≡ 0 → ⊥) → (Refused r leaving b) ≡ tested (readGiven nodes constraints) t b next
-  unfolding readGiven
-  records-refused r t e h = refused-by r (givenRefusal nodes constraints) t _ e h
+  unfolding tested
+  records-refused r t e h = sym (ap (λ (x : Read). tested x t b next) (given-refused nodes constraints r e h))
 
   module _ (e : givenRefusal nodes constraints ≡ 0) where
     accepted : (t : Bool) → tested (Read.Accepted (left nodes constraints (length constraints / 24)) []) t b next ≡ tested (readGiven nodes constraints) t b next

@@ -101,10 +101,6 @@ list-valid b n e =
     let f = fit-parts (length b) n (none-unless 1 (nodesFit (length b) n) (w .0)) in
     record { few = f .0; there = f .1; each = none-of-each (nodeRefusal b) n (w .1) }
 
-true-of : (t : Bool) → T t → t ≡ true
-true-of true h = refl
-true-of false h = absurd h
-
 module _ (b : List ℕ) (n : ℕ) (v : Valid b n) where
   pub prefix : (m : ℕ) → m ≤ n → Valid b m
   prefix m h = record { few = omega (arith, v .few); there = omega (arith, v .there); each = λ k l. v .each k (omega arith) }
@@ -124,9 +120,6 @@ module _ (b : List ℕ) (n : ℕ) (v : Valid b n) where
 
     pub children-below : (i j : ℕ) → nodeAt b k ≡ Node.Eml i j → (i < k) × (j < k)
     children-below i j e = subst (Right k) e (right b k is-node)
-
-    pub constant-finite : (x : Float) → nodeAt b k ≡ Node.Const x → finite x ≡ true
-    constant-finite x e = true-of (finite x) (subst (Right k) e (right b k is-node))
 
     pub index-small : (i : ℕ) → nodeAt b k ≡ Node.Var i → i < 16
     index-small i e = subst (Right k) e (right b k is-node)

@@ -12,7 +12,7 @@ ghost use Rattle.record.specs.Leaving.{_leaving_};
 ghost use Rattle.tree.specs.Tree.{treeVars};
 ghost use Rattle.tree.specs.Nodes.{nodeAt, isNode, nodeRefusal, nodesRefusal, nodesFit, listRefusal, Valid};
 ghost use Rattle.tree.specs.Code.{rightEnd, leftEnd, chosen, sizeAt, depthAt, sizeBy, depthBy, Known, KnownBoth, Within, Measured, operandsRefusal, resultRefusal};
-ghost use Rattle.tree.specs.Canonical.{lnNodes, subNodes, lnRefusal, subRefusal, ln as lnOutcome, sub as subOutcome};
+ghost use Rattle.tree.specs.Canonical.{lnNodes, subNodes, lnRefusal, subRefusal, ln as lnOf, sub as subOf};
 ghost use Rattle.tree.specs.Encoding.{nodeBytes, nodesBytes};
 ghost use Rattle.tree.specs.Views.{theTree};
 ghost use Rattle.record.specs.Views.{old, final};
@@ -401,7 +401,7 @@ pub struct Canonical;
 impl Canonical {
     // ln x: appends One, inner, middle, outer.
     pub fn ln(nodes: &mut [u8], count: usize, x: usize) -> Appended
-        ensures { λ r. ⌜ (r leaving final nodes) ≡ lnOutcome (old nodes) count x ⌝ }
+        ensures { λ r. ⌜ (r leaving final nodes) ≡ lnOf (old nodes) count x ⌝ }
     {
         let r = ln_refusal(nodes, count, x);
         if r != 0 {
@@ -413,7 +413,7 @@ impl Canonical {
 
     // x - y: appends One, the four of ln x, exp_y, result.
     pub fn sub(nodes: &mut [u8], count: usize, x: usize, y: usize) -> Appended
-        ensures { λ r. ⌜ (r leaving final nodes) ≡ subOutcome (old nodes) count x y ⌝ }
+        ensures { λ r. ⌜ (r leaving final nodes) ≡ subOf (old nodes) count x y ⌝ }
     {
         let r = sub_refusal(nodes, count, x, y);
         if r != 0 {

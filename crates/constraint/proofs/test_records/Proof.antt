@@ -14,13 +14,13 @@ use Rattle.constraint.proofs.test_records.Statement.{statement}
 use Rattle.constraint.proofs.test_records.Tie as tie
 
 abbrev Inv-loop : tie.InvT-loop
-Inv-loop count constraints n starts₀ depth₀ quantifiers₀ begins₀ top₀ k₀ starts depth quantifiers begins top k =
+Inv-loop constraints n count starts₀ depth₀ quantifiers₀ begins₀ top₀ k₀ starts depth quantifiers begins top k =
     (k ≤ n) × (top ≤ k) × (length depth ≡ 256) × (length quantifiers ≡ 256) × (length begins ≡ 256) × (length starts ≡ 256)
     × Begun constraints k top begins starts₀ starts
     × Stacked count constraints k top depth quantifiers
 
 abbrev μ-loop : tie.MeasureT-loop
-μ-loop count constraints n starts₀ depth₀ quantifiers₀ begins₀ top₀ k₀ starts depth quantifiers begins top k =
+μ-loop constraints n count starts₀ depth₀ quantifiers₀ begins₀ top₀ k₀ starts depth quantifiers begins top k =
     n - k
 
 -- what `nesting_of` tells of the constraint that record k finishes
