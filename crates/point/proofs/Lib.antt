@@ -2,6 +2,7 @@ mod Threshold
 mod Machine
 mod Flattening
 mod Loop
+mod Shapes
 mod Sampling
 mod Checking
 mod Residuals

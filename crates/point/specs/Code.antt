@@ -6,7 +6,18 @@ use lib.Ieee.{Float, binary64}
 use Rattle.number.specs.Notation.{_⊕_, whole, +∞}
 use Rattle.number.specs.MaxMin.{maxOf, minOf}
 use Rattle.number.specs.Halving.{mid}
+use Rattle.constraint.specs.declared.Record.{Record}
+use Rattle.point.specs.declared.helpers.Shape.{Shape}
 use Rattle.constraint.specs.Constraint.{Constraint, Constraints, And, Or, ForAll, Exists}
+
+-- what a record asks of a point
+abbrev pub shapeOf : Record → Shape
+shapeOf (Record.Atom rel i) = Shape.Atom rel i
+shapeOf Record.Not = Shape.Not
+shapeOf (Record.And m) = Shape.Each false m
+shapeOf (Record.Or m) = Shape.Each true m
+shapeOf (Record.ForAll v lo hi) = Shape.Samples (record { any = false; v = v; lo = lo; hi = hi })
+shapeOf (Record.Exists v lo hi) = Shape.Samples (record { any = true; v = v; lo = lo; hi = hi })
 
 abbrev pub joined : Bool → Constraints → Constraint
 joined false cs = And cs

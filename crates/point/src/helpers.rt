@@ -5,19 +5,20 @@ use constraint::Record;
 use constraint::Relation;
 use settings::Settings;
 ghost use mathlib.Core.Path.{_≡_};
-ghost use Prim.Native.Nat.{_≤_, _+_};
+ghost use Prim.Native.Nat.{_≤_, _+_, _*_};
 ghost use lib.ListN.{length, take, set};
 ghost use Rattle.number.specs.Sign.{absOf};
 ghost use Rattle.tree.specs.Tree.{size};
 ghost use Rattle.tree.specs.Nodes.{Valid, treeAt};
 ghost use Rattle.tree.specs.Views.{theTree};
+ghost use Rattle.constraint.specs.Records.{recordAt};
 ghost use Rattle.constraint.specs.Starts.{Ready, Taken};
 ghost use Rattle.constraint.specs.Views.{the, those};
 ghost use Rattle.point.specs.Room.{Room};
 ghost use Rattle.point.specs.Eval.{evalReal};
 ghost use Rattle.point.specs.Check.{holds as holdsOf, passes, check};
 ghost use Rattle.point.specs.Residual.{shortfall as shortfallOf, errorValue, valueOr, residualOfNot, residual};
-ghost use Rattle.point.specs.Code.{joined, quantified, samplesOf, residualOfNone, oneMore, sampleMore};
+ghost use Rattle.point.specs.Code.{shapeOf, joined, quantified, samplesOf, residualOfNone, oneMore, sampleMore};
 ghost use Rattle.record.specs.Views.{old};
 
 // The point with variable v at x, in the first places.
@@ -44,9 +45,50 @@ fn samples(lo: f64, hi: f64) -> [f64; 3]
     [lo, (lo + hi) / 2.0, hi]
 }
 
+// Which constraint a record quantifies: for any sample of variable v in lo..hi, or for all.
+pub struct Quantifier {
+    any: bool,
+    v: usize,
+    lo: f64,
+    hi: f64,
+}
+
+// What a record asks of a point: an atom of a node's value; the contrary of the constraint before; any or all of the last m; any or all of
+// a quantifier's samples.
+pub enum Shape {
+    Atom(Relation, usize),
+    Not,
+    Each(bool, usize),
+    Samples(Quantifier),
+}
+
+fn shape_in(constraints: &[u8], k: usize) -> Shape
+    requires { ⌜ 24 * k + 24 ≤ length (now constraints) ⌝ }
+    ensures { λ x. ⌜ x ≡ shapeOf (recordAt (old constraints) k) ⌝ }
+{
+    match constraint::record_in(constraints, k) {
+        Record::Atom(relation, i) => Shape::Atom(relation, i),
+        Record::Not => Shape::Not,
+        Record::And(m) => Shape::Each(false, m),
+        Record::Or(m) => Shape::Each(true, m),
+        Record::ForAll(v, lo, hi) => Shape::Samples(Quantifier {
+            any: false,
+            v,
+            lo,
+            hi,
+        }),
+        Record::Exists(v, lo, hi) => Shape::Samples(Quantifier {
+            any: true,
+            v,
+            lo,
+            hi,
+        }),
+    }
+}
+
 // ---- the check
 
-fn holds(relation: Relation, settings: Settings, v: f64) -> bool
+fn holds(settings: Settings, relation: Relation, v: f64) -> bool
     ensures { λ r. ⌜ r ≡ holdsOf settings relation v ⌝ }
 {
     match relation {
@@ -61,9 +103,9 @@ fn holds(relation: Relation, settings: Settings, v: f64) -> bool
 
 fn check_atom(
     nodes: &[u8],
-    relation: Relation,
     i: usize,
     settings: Settings,
+    relation: Relation,
     point: &[f64],
     order: &mut [u16],
 ) -> bool
@@ -72,7 +114,7 @@ fn check_atom(
     ensures { λ r. ⌜ r ≡ passes settings relation (evalReal settings (old point) (theTree nodes i)) ⌝ }
 {
     match super::eval::eval_real(nodes, i, settings, point, order) {
-        Evaluated::Value(v) => holds(relation, settings, v),
+        Evaluated::Value(v) => holds(settings, relation, v),
         Evaluated::Failed(_) => false,
     }
 }
@@ -90,57 +132,23 @@ pub fn check_constraint(
     requires { ⌜ Room (now nodes) (now point) (now order) ⌝ }
     ensures { λ r. ⌜ r ≡ check settings (old point) (the nodes constraints k) ⌝ }
 {
-    match constraint::record_in(constraints, k) {
-        Record::Atom(relation, i) => check_atom(nodes, relation, i, settings, point, order),
-        Record::Not => !check_constraint(nodes, constraints, starts, k - 1, settings, point, order),
-        Record::And(m) => check_each(
+    match shape_in(constraints, k) {
+        Shape::Atom(relation, i) => check_atom(nodes, i, settings, relation, point, order),
+        Shape::Not => !check_constraint(nodes, constraints, starts, k - 1, settings, point, order),
+        Shape::Each(any, m) => check_each(
             nodes,
             constraints,
             starts,
             m,
             k,
             settings,
-            false,
+            any,
             point,
             order,
         ),
-        Record::Or(m) => check_each(
-            nodes,
-            constraints,
-            starts,
-            m,
-            k,
-            settings,
-            true,
-            point,
-            order,
-        ),
-        Record::ForAll(v, lo, hi) => check_samples(
-            nodes,
-            constraints,
-            starts,
-            k - 1,
-            v,
-            lo,
-            hi,
-            settings,
-            false,
-            point,
-            order,
-        ),
-        Record::Exists(v, lo, hi) => check_samples(
-            nodes,
-            constraints,
-            starts,
-            k - 1,
-            v,
-            lo,
-            hi,
-            settings,
-            true,
-            point,
-            order,
-        ),
+        Shape::Samples(q) => {
+            check_samples(nodes, constraints, starts, k - 1, settings, q, point, order)
+        }
     }
 }
 
@@ -189,29 +197,26 @@ fn check_samples(
     constraints: &[u8],
     starts: &[usize; 256],
     k: usize,
-    v: usize,
-    lo: f64,
-    hi: f64,
     settings: Settings,
-    any: bool,
+    q: Quantifier,
     point: &[f64],
     order: &mut [u16],
 ) -> bool
     requires { ⌜ Ready (now nodes) (now constraints) (k + 1) (now starts) ⌝ }
     requires { ⌜ Room (now nodes) (now point) (now order) ⌝ }
-    ensures { λ r. ⌜ r ≡ check settings (old point) (quantified any v lo hi (the nodes constraints k)) ⌝ }
+    ensures { λ r. ⌜ r ≡ check settings (old point) (quantified (q .any) (q .v) (q .lo) (q .hi) (the nodes constraints k)) ⌝ }
 {
-    let samples = samples(lo, hi);
+    let samples = samples(q.lo, q.hi);
     let n = point.len();
     let mut i = 0;
     while i < 3 {
-        let inner = sampled(v, samples[i], point);
-        if check_constraint(nodes, constraints, starts, k, settings, &inner[..n], order) == any {
-            return any;
+        let inner = sampled(q.v, samples[i], point);
+        if check_constraint(nodes, constraints, starts, k, settings, &inner[..n], order) == q.any {
+            return q.any;
         }
         i += 1;
     }
-    !any
+    !q.any
 }
 
 // ---- the residual
@@ -245,9 +250,9 @@ fn shortfall(relation: Relation, v: f64) -> f64
 
 fn residual_of_atom(
     nodes: &[u8],
-    relation: Relation,
     i: usize,
     settings: Settings,
+    relation: Relation,
     point: &[f64],
     order: &mut [u16],
 ) -> f64
@@ -316,9 +321,9 @@ pub fn evaluate_constraint_residual(
     requires { ⌜ Room (now nodes) (now point) (now order) ⌝ }
     ensures { λ r. ⌜ r ≡ residual settings (old point) (the nodes constraints k) ⌝ }
 {
-    match constraint::record_in(constraints, k) {
-        Record::Atom(relation, i) => residual_of_atom(nodes, relation, i, settings, point, order),
-        Record::Not => residual_of_not(evaluate_constraint_residual(
+    match shape_in(constraints, k) {
+        Shape::Atom(relation, i) => residual_of_atom(nodes, i, settings, relation, point, order),
+        Shape::Not => residual_of_not(evaluate_constraint_residual(
             nodes,
             constraints,
             starts,
@@ -327,54 +332,20 @@ pub fn evaluate_constraint_residual(
             point,
             order,
         )),
-        Record::And(m) => residual_each(
+        Shape::Each(any, m) => residual_each(
             nodes,
             constraints,
             starts,
             m,
             k,
             settings,
-            false,
+            any,
             point,
             order,
         ),
-        Record::Or(m) => residual_each(
-            nodes,
-            constraints,
-            starts,
-            m,
-            k,
-            settings,
-            true,
-            point,
-            order,
-        ),
-        Record::ForAll(v, lo, hi) => residual_samples(
-            nodes,
-            constraints,
-            starts,
-            k - 1,
-            v,
-            lo,
-            hi,
-            settings,
-            false,
-            point,
-            order,
-        ),
-        Record::Exists(v, lo, hi) => residual_samples(
-            nodes,
-            constraints,
-            starts,
-            k - 1,
-            v,
-            lo,
-            hi,
-            settings,
-            true,
-            point,
-            order,
-        ),
+        Shape::Samples(q) => {
+            residual_samples(nodes, constraints, starts, k - 1, settings, q, point, order)
+        }
     }
 }
 
@@ -420,24 +391,21 @@ fn residual_samples(
     constraints: &[u8],
     starts: &[usize; 256],
     k: usize,
-    v: usize,
-    lo: f64,
-    hi: f64,
     settings: Settings,
-    any: bool,
+    q: Quantifier,
     point: &[f64],
     order: &mut [u16],
 ) -> f64
     requires { ⌜ Ready (now nodes) (now constraints) (k + 1) (now starts) ⌝ }
     requires { ⌜ Room (now nodes) (now point) (now order) ⌝ }
-    ensures { λ r. ⌜ r ≡ residual settings (old point) (quantified any v lo hi (the nodes constraints k)) ⌝ }
+    ensures { λ r. ⌜ r ≡ residual settings (old point) (quantified (q .any) (q .v) (q .lo) (q .hi) (the nodes constraints k)) ⌝ }
 {
-    let samples = samples(lo, hi);
+    let samples = samples(q.lo, q.hi);
     let n = point.len();
-    let mut value = residual_of_none(any);
+    let mut value = residual_of_none(q.any);
     let mut i = 0;
     while i < 3 {
-        let inner = sampled(v, samples[i], point);
+        let inner = sampled(q.v, samples[i], point);
         let r = evaluate_constraint_residual(
             nodes,
             constraints,
@@ -447,7 +415,7 @@ fn residual_samples(
             &inner[..n],
             order,
         );
-        value = sample_more(any, value, r);
+        value = sample_more(q.any, value, r);
         i += 1;
     }
     value

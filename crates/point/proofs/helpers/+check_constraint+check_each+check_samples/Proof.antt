@@ -1,6 +1,6 @@
 -- The functions of the check meet their contracts: at each call the record number falls, or the same record is looked at more closely.
 -- Assumes nothing.
-use Prim.Native.Nat.{ℕ, _<_, _≤_, _+_, _-_, _*_}
+use Prim.Native.Nat.{ℕ, _≤_, _+_, _-_, _*_}
 use mathlib.Core.Path.{_≡_, refl, sym, ap, _∙_}
 use mathlib.Core.Bool.{not}
 use native.Mathlib.Omega.{arith}
@@ -9,17 +9,17 @@ use borrow.Fn.Kinds.{In}
 use borrow.Fn.PlainCycle.{Measures}
 use denote.Ref.{now}
 use lib.ListN.{length, set, drop}
-use Rattle.constraint.specs.RecordLaws.{record-there, inside, atom-node, at-atom, at-not, at-and, and-taken, at-or, or-taken, at-forall, at-exists, some, start-falls, before-last, last}
-use Rattle.constraint.specs.declared.Record.{Record}
-use Rattle.constraint.specs.Records.{takes, constraintAt}
-use Rattle.constraint.specs.Starts.{Ready}
-use Rattle.constraint.proofs.record_in.Reads as record-in
+use Rattle.constraint.specs.RecordLaws.{record-there, some, start-falls, before-last, last}
+use Rattle.constraint.specs.Records.{constraintAt}
+use Rattle.point.specs.declared.helpers.Shape.{Shape}
 use Rattle.point.specs.Room.{kept}
 use Rattle.point.specs.Check.{check}
 use Rattle.point.specs.Code.{quantified}
 use Rattle.tree.proofs.Cycle.{at, below}
 use Rattle.point.proofs.Checking.{each-of-none, each-settled, each-goes-on, left, all-left, none-left, sample-settled, sample-goes-on}
+use Rattle.point.proofs.Shapes.{Says, says}
 use Rattle.point.proofs.Sampling.{sample-length, sample-there, sample-room}
+use Rattle.point.proofs.helpers.shape_in.Reads as shape-in
 use Rattle.point.proofs.helpers.check_atom.Reads as check-atom
 use Rattle.point.proofs.helpers.sampled.Reads as sampled
 use Rattle.point.proofs.helpers.samples.Reads as samples-of
@@ -45,14 +45,14 @@ abbrev μ-samples : Measures 5 samples-kinds.ps ℕ
 μ-samples κs a = 2 * a .1 .1 .1 .0 + 2
 
 abbrev Inv-loop : samples-lts.InvT-loop
-Inv-loop nodes constraints starts k v lo hi settings any point order₀ samples n i₀ order i =
+Inv-loop nodes constraints starts k settings q point order₀ samples n i₀ order i =
     let c = constraintAt nodes constraints k in
     (i ≤ 3)
     × (length order ≡ length order₀)
-    × (left any (λ x. check settings (set point v x) c) (drop i samples) ≡ check settings point (quantified any v lo hi c))
+    × (left (q .any) (λ x. check settings (set point (q .v) x) c) (drop i samples) ≡ check settings point (quantified (q .any) (q .v) (q .lo) (q .hi) c))
 
 abbrev μ-loop : samples-lts.MeasureT-loop
-μ-loop nodes constraints starts k v lo hi settings any point order₀ samples n i₀ order i = 3 - i
+μ-loop nodes constraints starts k settings q point order₀ samples n i₀ order i = 3 - i
 
 module _ (t : ℕ) where
   abbrev constraint-at : In 5 constraint-kinds.ps
@@ -72,8 +72,8 @@ module _ (t : ℕ) where
 
   abbrev constraint-calls : constraint-lts.Claims
   constraint-calls = (
-    record-in.Asked,
-    record-in.Learnt,
+    shape-in.Asked,
+    shape-in.Learnt,
     check-atom.Asked,
     check-atom.Learnt,
     constraint-below,
@@ -92,99 +92,68 @@ module _ (t : ℕ) where
 
   -- ---- check_constraint, by what the record says
   abbrev Read : Type 0
-  Read = constraint-lts.After-record-in constraint-calls constraint-at constraint.Post
+  Read = constraint-lts.After-shape-in constraint-calls constraint-at constraint.Post
 
   abbrev start : Read → constraint-lts.Start constraint-calls constraint-at constraint.Post
   start r = r .before .before .before .before .before
 
-  -- what a record that takes one takes
-  inner : (r : Read) {x : Record} → r .record-in .result ≡ x → takes x ≡ 1 →
-      let a = start r .args in (0 < a .k) × Ready (now (a .nodes)) (now (a .constraints)) (a .k - 1 + 1) (now (a .starts))
-  inner r e = inside _ _ _ _ (start r .pre .1 .0) _ (sym (r .record-in .ensures) ∙ e)
+  -- what the record says
+  told : (r : Read) {x : Shape} → r .shape-in .result ≡ x → let a = start r .args in Says (now (a .nodes)) (now (a .constraints)) (a .k) (now (a .starts)) x
+  told r e = says _ _ _ _ (start r .pre .1 .0) (r .shape-in .ensures) e
 
-  record-in-requires : constraint-lts.Need-record-in-requires constraint-calls constraint-at constraint.Post
-  record-in-requires c κs = let s = c .before .before .before .before in record-there _ _ (s .args .k) _ (s .pre .1 .0)
+  shape-in-requires : constraint-lts.Need-shape-in-requires constraint-calls constraint-at constraint.Post
+  shape-in-requires c κs = let s = c .before .before .before .before in record-there _ _ (s .args .k) _ (s .pre .1 .0)
 
   check-atom-requires : constraint-lts.Need-check-atom-requires constraint-calls constraint-at constraint.Post
   check-atom-requires c κs =
       let r = c .before .before .before .before in
-      let a = atom-node _ _ _ _ (start r .pre .1 .0) _ _ (sym (r .record-in .ensures) ∙ c .before .before .relation .given .1) in
-      (a, start r .pre .1 .1 .long _ a)
+      let w = told r (c .before .before .relation .given .1) in
+      (w .1, start r .pre .1 .1 .long _ (w .1))
 
   sub-check-constraint : constraint-lts.Need-sub-check-constraint constraint-calls constraint-at constraint.Post
-  sub-check-constraint c = inner (c .before .before) (c .enum-told .given .1) refl .0
+  sub-check-constraint c = told (c .before .before) (c .enum-told .given .1) .1
 
   check-constraint-requires : constraint-lts.Need-check-constraint-requires constraint-calls constraint-at constraint.Post
   check-constraint-requires c κs =
       let r = c .before .before .before in
-      let w = inner r (c .before .enum-told .given .1) refl in
-      (omega arith, (w .1, start r .pre .1 .1))
+      let w = told r (c .before .enum-told .given .1) in
+      (omega arith, (w .2, start r .pre .1 .1))
 
   check-each-requires : constraint-lts.Need-check-each-requires constraint-calls constraint-at constraint.Post
   check-each-requires c κs =
       let r = c .before .before .before .before in
-      (omega arith, (and-taken _ _ _ _ (start r .pre .1 .0) _ (sym (r .record-in .ensures) ∙ c .before .before .m .given .1), start r .pre .1 .1))
-
-  check-each-requires-2 : constraint-lts.Need-check-each-requires-2 constraint-calls constraint-at constraint.Post
-  check-each-requires-2 c κs =
-      let r = c .before .before .before .before in
-      (omega arith, (or-taken _ _ _ _ (start r .pre .1 .0) _ (sym (r .record-in .ensures) ∙ c .before .before .m2 .given .1), start r .pre .1 .1))
+      (omega arith, (told r (c .before .before .any .given .1) .1, start r .pre .1 .1))
 
   sub-check-samples : constraint-lts.Need-sub-check-samples constraint-calls constraint-at constraint.Post
-  sub-check-samples c = inner (c .before .before .before) (c .before .v .given .1) refl .0
+  sub-check-samples c = told (c .before .before .before) (c .before .q .given .1) .1
 
   check-samples-requires : constraint-lts.Need-check-samples-requires constraint-calls constraint-at constraint.Post
   check-samples-requires c κs =
       let r = c .before .before .before .before in
-      let w = inner r (c .before .before .v .given .1) refl in
-      (omega arith, (w .1, start r .pre .1 .1))
-
-  sub-check-samples-2 : constraint-lts.Need-sub-check-samples-2 constraint-calls constraint-at constraint.Post
-  sub-check-samples-2 c = inner (c .before .before .before) (c .before .v2 .given .1) refl .0
-
-  check-samples-requires-2 : constraint-lts.Need-check-samples-requires-2 constraint-calls constraint-at constraint.Post
-  check-samples-requires-2 c κs =
-      let r = c .before .before .before .before in
-      let w = inner r (c .before .before .v2 .given .1) refl in
-      (omega arith, (w .1, start r .pre .1 .1))
+      let w = told r (c .before .before .q .given .1) in
+      (omega arith, (w .2, start r .pre .1 .1))
 
   returns : constraint-lts.Need-returns constraint-calls constraint-at constraint.Post
   unfolding check
   returns c =
       let f = c .before .before in
-      let r = f .before .before .before .before .before in
-      rw (at-atom _ _ _ _ (start r .pre .1 .0) _ _ (sym (r .record-in .ensures) ∙ f .before .before .before .relation .given .1)) (f .check-atom .ensures)
+      rw (told (f .before .before .before .before .before) (f .before .before .before .relation .given .1) .0) (f .check-atom .ensures)
 
   returns-2 : constraint-lts.Need-returns-2 constraint-calls constraint-at constraint.Post
   unfolding check
   returns-2 c =
       let f = c .before .before in
-      let r = f .before .before .before .before in
-      rw (at-not _ _ _ _ (start r .pre .1 .0) (sym (r .record-in .ensures) ∙ f .before .before .enum-told .given .1)) (ap not (f .check-constraint .ensures))
+      rw (told (f .before .before .before .before) (f .before .before .enum-told .given .1) .0) (ap not (f .check-constraint .ensures))
 
   returns-3 : constraint-lts.Need-returns-3 constraint-calls constraint-at constraint.Post
   returns-3 c =
       let f = c .before .before in
-      let r = f .before .before .before .before .before in
-      rw (at-and _ _ _ _ (start r .pre .1 .0) _ (sym (r .record-in .ensures) ∙ f .before .before .before .m .given .1)) (f .check-each .ensures)
+      rw (told (f .before .before .before .before .before) (f .before .before .before .any .given .1) .0) (f .check-each .ensures)
 
   returns-4 : constraint-lts.Need-returns-4 constraint-calls constraint-at constraint.Post
   returns-4 c =
       let f = c .before .before in
-      let r = f .before .before .before .before .before in
-      rw (at-or _ _ _ _ (start r .pre .1 .0) _ (sym (r .record-in .ensures) ∙ f .before .before .before .m2 .given .1)) (f .check-each2 .ensures)
-
-  returns-5 : constraint-lts.Need-returns-5 constraint-calls constraint-at constraint.Post
-  returns-5 c =
-      let f = c .before .before in
-      let r = f .before .before .before .before .before in
-      rw (at-forall _ _ _ _ (start r .pre .1 .0) _ _ _ (sym (r .record-in .ensures) ∙ f .before .before .before .v .given .1)) (f .check-samples .ensures)
-
-  returns-6 : constraint-lts.Need-returns-6 constraint-calls constraint-at constraint.Post
-  returns-6 c =
-      let f = c .before .before in
-      let r = f .before .before .before .before .before in
-      rw (at-exists _ _ _ _ (start r .pre .1 .0) _ _ _ (sym (r .record-in .ensures) ∙ f .before .before .before .v2 .given .1)) (f .check-samples2 .ensures)
+      rw (told (f .before .before .before .before .before) (f .before .before .before .q .given .1) .0) (f .check-samples .ensures)
 
   -- ---- check_each
   each-returns : each-lts.Need-returns each-calls each-at each.Post
@@ -235,7 +204,7 @@ module _ (t : ℕ) where
   samples-loop-holds : samples-lts.Need-loop-holds samples-calls samples-at samples.Post Inv-loop μ-loop
   samples-loop-holds c =
       let a = c .before .before .before .before .before .args in
-      (omega arith, refl, ap (left (a .any) _) (c .samples .ensures) ∙ all-left _ _ (a .v) (a .lo) (a .hi) _ (a .any))
+      (omega arith, refl, ap (left (a .q .any) _) (c .samples .ensures) ∙ all-left _ _ (a .q .v) (a .q .lo) (a .q .hi) _ (a .q .any))
 
   samples-array-read-sampled : samples-lts.Need-array-read-sampled samples-calls samples-at samples.Post Inv-loop μ-loop
   samples-array-read-sampled c = omega (arith, ap length (c .before .before .samples .ensures))
@@ -246,51 +215,52 @@ module _ (t : ℕ) where
   samples-array-share-prefix-inner : samples-lts.Need-array-share-prefix-inner samples-calls samples-at samples.Post Inv-loop μ-loop
   samples-array-share-prefix-inner c =
       let a = c .before .before .before .before .before .before .before .before .args in
-      sample-there (c .sampled .result) (now (a .point)) (a .v) _ (c .sampled .ensures)
+      sample-there (c .sampled .result) (now (a .point)) (a .q .v) _ (c .sampled .ensures)
 
   samples-slice-aggregate-check-constraint : samples-lts.Need-slice-aggregate-check-constraint samples-calls samples-at samples.Post Inv-loop μ-loop
   samples-slice-aggregate-check-constraint c =
       let a = c .before .before .before .before .before .before .before .before .before .args in
-      sample-length (c .before .sampled .result) (now (a .point)) (a .v) _ (c .before .sampled .ensures)
+      sample-length (c .before .sampled .result) (now (a .point)) (a .q .v) _ (c .before .sampled .ensures)
 
   samples-check-constraint-requires : samples-lts.Need-check-constraint-requires samples-calls samples-at samples.Post Inv-loop μ-loop
   samples-check-constraint-requires c κs =
       let f = c .before .before in
       let l = f .before .before in
       let s = l .before .before .before .before .before .before in
-      (omega arith, (s .pre .1 .0, sample-room _ _ (s .args .v) _ (f .sampled .ensures) (s .pre .1 .1) (l .loop .inv .1)))
+      (omega arith, (s .pre .1 .0, sample-room _ _ (s .args .q .v) _ (f .sampled .ensures) (s .pre .1 .1) (l .loop .inv .1)))
 
   samples-same-length : samples-lts.Need-same-length samples-calls samples-at samples.Post Inv-loop μ-loop
   samples-same-length c =
-      let f = c .before .before .before in
+      let f = c .before .before .before .before in
       f .check-constraint .kept .1 .1 .1 .1 .1 .1 .0 ∙ f .before .before .before .before .before .loop .inv .1
 
   samples-returns : samples-lts.Need-returns samples-calls samples-at samples.Post Inv-loop μ-loop
   samples-returns c =
-      let f = c .before .before .before in
+      let f = c .before .before .before .before in
       let g = f .before .before .before in
       let l = g .before .before in
       let a = l .before .before .before .before .before .before .args in
-      sample-settled _ _ (a .v) (a .lo) (a .hi) _ (a .any) (l .before .samples .ensures) _ (l .loop .inv .2) (g .before .loop-test .taken) (f .check-constraint .result) (rw (sym (g .sampled .ensures)) (f .check-constraint .ensures)) (c .if1 .taken)
+      sample-settled _ _ (a .q .v) (a .q .lo) (a .q .hi) _ (a .q .any) (l .before .samples .ensures) _ (l .loop .inv .2) (g .before .loop-test .taken) (f .check-constraint .result) (rw (sym (g .sampled .ensures)) (f .check-constraint .ensures)) (c .if1 .taken)
 
   samples-loop-again : samples-lts.Need-loop-again samples-calls samples-at samples.Post Inv-loop μ-loop
   samples-loop-again c =
-      let f = c .before .before .before in
+      let f = c .before .before .before .before in
       let g = f .before .before .before in
       let l = g .before .before in
       let a = l .before .before .before .before .before .before .args in (
         omega arith,
         f .check-constraint .kept .1 .1 .1 .1 .1 .1 .0 ∙ l .loop .inv .1,
-        sample-goes-on _ _ (a .v) (a .lo) (a .hi) _ (a .any) (l .before .samples .ensures) _ (l .loop .inv .2) (g .before .loop-test .taken) (f .check-constraint .result) (rw (sym (g .sampled .ensures)) (f .check-constraint .ensures)) (c .if1 .left),
+        sample-goes-on _ _ (a .q .v) (a .q .lo) (a .q .hi) _ (a .q .any) (l .before .samples .ensures) _ (l .loop .inv .2) (g .before .loop-test .taken) (f .check-constraint .result) (rw (sym (g .sampled .ensures)) (f .check-constraint .ensures)) (c .if1 .left),
       )
 
   samples-same-length-2 : samples-lts.Need-same-length-2 samples-calls samples-at samples.Post Inv-loop μ-loop
-  samples-same-length-2 c = c .before .loop .inv .1
+  samples-same-length-2 c = c .before .before .loop .inv .1
 
   samples-returns-2 : samples-lts.Need-returns-2 samples-calls samples-at samples.Post Inv-loop μ-loop
   samples-returns-2 c =
-      let a = c .before .before .before .before .before .before .before .args in
-      none-left _ _ (a .v) (a .lo) (a .hi) _ (a .any) (c .before .before .samples .ensures) _ (c .before .loop .inv .2) (c .loop-test .left)
+      let l = c .before .before in
+      let a = l .before .before .before .before .before .before .args in
+      none-left _ _ (a .q .v) (a .q .lo) (a .q .hi) _ (a .q .any) (l .before .samples .ensures) _ (l .loop .inv .2) (c .before .loop-test .left)
 
 pub +check-constraint+check-each+check-samples-spec : {M : Type 1} → statement M
 +check-constraint+check-each+check-samples-spec =
@@ -299,7 +269,7 @@ pub +check-constraint+check-each+check-samples-spec : {M : Type 1} → statement
     μ-each
     μ-samples
     (λ t. constraint-lts.spec (constraint-calls t) (constraint-at t) constraint.Post
-    (record-in-requires t)
+    (shape-in-requires t)
     (λ c. search needs)
     (check-atom-requires t)
     (λ c. search needs)
@@ -308,13 +278,8 @@ pub +check-constraint+check-each+check-samples-spec : {M : Type 1} → statement
     (λ c. search needs)
     (check-each-requires t)
     (λ c. search needs)
-    (check-each-requires-2 t)
-    (λ c. search needs)
     (sub-check-samples t)
     (check-samples-requires t)
-    (λ c. search needs)
-    (sub-check-samples-2 t)
-    (check-samples-requires-2 t)
     (λ c. search needs)
     (returns t)
     (λ c. search needs)
@@ -322,11 +287,7 @@ pub +check-constraint+check-each+check-samples-spec : {M : Type 1} → statement
     (λ c. search needs)
     (returns-3 t)
     (λ c. search needs)
-    (returns-4 t)
-    (λ c. search needs)
-    (returns-5 t)
-    (λ c. search needs)
-    (returns-6 t))
+    (returns-4 t))
     (λ t. each-lts.spec (each-calls t) (each-at t) each.Post
     (each-returns t)
     (each-sub-last t)

@@ -1,6 +1,6 @@
 -- The functions of the residual meet their contracts: at each call the record number falls, or the same record is looked at more closely.
 -- Assumes nothing.
-use Prim.Native.Nat.{ℕ, _<_, _≤_, _+_, _-_, _*_}
+use Prim.Native.Nat.{ℕ, _≤_, _+_, _-_, _*_}
 use mathlib.Core.Path.{_≡_, refl, sym, ap, ap₂, _∙_}
 use native.Mathlib.Omega.{arith}
 use borrow.Author.Needs.{needs}
@@ -8,17 +8,17 @@ use borrow.Fn.Kinds.{In}
 use borrow.Fn.PlainCycle.{Measures}
 use denote.Ref.{now}
 use lib.ListN.{length, set, drop}
-use Rattle.constraint.specs.RecordLaws.{record-there, inside, atom-node, at-atom, at-not, at-and, and-taken, at-or, or-taken, at-forall, at-exists, some, start-falls, before-last, last}
-use Rattle.constraint.specs.declared.Record.{Record}
-use Rattle.constraint.specs.Records.{takes, constraintAt}
-use Rattle.constraint.specs.Starts.{Ready}
-use Rattle.constraint.proofs.record_in.Reads as record-in
+use Rattle.constraint.specs.RecordLaws.{record-there, some, start-falls, before-last, last}
+use Rattle.constraint.specs.Records.{constraintAt}
+use Rattle.point.specs.declared.helpers.Shape.{Shape}
 use Rattle.point.specs.Room.{kept}
 use Rattle.point.specs.Residual.{residualOfNot, residual}
 use Rattle.point.specs.Code.{quantified, sampleMore}
 use Rattle.tree.proofs.Cycle.{at, below}
 use Rattle.point.proofs.Residuals.{each-of-none, each-of-more, after, all-left, none-left, one-left}
+use Rattle.point.proofs.Shapes.{Says, says}
 use Rattle.point.proofs.Sampling.{sample-length, sample-there, sample-room}
+use Rattle.point.proofs.helpers.shape_in.Reads as shape-in
 use Rattle.point.proofs.helpers.residual_of_atom.Reads as residual-of-atom
 use Rattle.point.proofs.helpers.residual_of_not.Reads as residual-of-not
 use Rattle.point.proofs.helpers.residual_of_none.Reads as residual-of-none
@@ -48,14 +48,14 @@ abbrev μ-samples : Measures 5 samples-kinds.ps ℕ
 μ-samples κs a = 2 * a .1 .1 .1 .0 + 2
 
 abbrev Inv-loop : samples-lts.InvT-loop
-Inv-loop nodes constraints starts k v lo hi settings any point order₀ samples n value₀ i₀ order value i =
+Inv-loop nodes constraints starts k settings q point order₀ samples n value₀ i₀ order value i =
     let c = constraintAt nodes constraints k in
     (i ≤ 3)
     × (length order ≡ length order₀)
-    × (after (sampleMore any) (λ x. residual settings (set point v x) c) value (drop i samples) ≡ residual settings point (quantified any v lo hi c))
+    × (after (sampleMore (q .any)) (λ x. residual settings (set point (q .v) x) c) value (drop i samples) ≡ residual settings point (quantified (q .any) (q .v) (q .lo) (q .hi) c))
 
 abbrev μ-loop : samples-lts.MeasureT-loop
-μ-loop nodes constraints starts k v lo hi settings any point order₀ samples n value₀ i₀ order value i = 3 - i
+μ-loop nodes constraints starts k settings q point order₀ samples n value₀ i₀ order value i = 3 - i
 
 module _ (t : ℕ) where
   abbrev constraint-at : In 5 constraint-kinds.ps
@@ -75,8 +75,8 @@ module _ (t : ℕ) where
 
   abbrev constraint-calls : constraint-lts.Claims
   constraint-calls = (
-    record-in.Asked,
-    record-in.Learnt,
+    shape-in.Asked,
+    shape-in.Learnt,
     residual-of-atom.Asked,
     residual-of-atom.Learnt,
     constraint-below,
@@ -108,99 +108,68 @@ module _ (t : ℕ) where
 
   -- ---- evaluate_constraint_residual, by what the record says
   abbrev Read : Type 0
-  Read = constraint-lts.After-record-in constraint-calls constraint-at constraint.Post
+  Read = constraint-lts.After-shape-in constraint-calls constraint-at constraint.Post
 
   abbrev start : Read → constraint-lts.Start constraint-calls constraint-at constraint.Post
   start r = r .before .before .before .before .before
 
-  -- what a record that takes one takes
-  inner : (r : Read) {x : Record} → r .record-in .result ≡ x → takes x ≡ 1 →
-      let a = start r .args in (0 < a .k) × Ready (now (a .nodes)) (now (a .constraints)) (a .k - 1 + 1) (now (a .starts))
-  inner r e = inside _ _ _ _ (start r .pre .1 .0) _ (sym (r .record-in .ensures) ∙ e)
+  -- what the record says
+  told : (r : Read) {x : Shape} → r .shape-in .result ≡ x → let a = start r .args in Says (now (a .nodes)) (now (a .constraints)) (a .k) (now (a .starts)) x
+  told r e = says _ _ _ _ (start r .pre .1 .0) (r .shape-in .ensures) e
 
-  record-in-requires : constraint-lts.Need-record-in-requires constraint-calls constraint-at constraint.Post
-  record-in-requires c κs = let s = c .before .before .before .before in record-there _ _ (s .args .k) _ (s .pre .1 .0)
+  shape-in-requires : constraint-lts.Need-shape-in-requires constraint-calls constraint-at constraint.Post
+  shape-in-requires c κs = let s = c .before .before .before .before in record-there _ _ (s .args .k) _ (s .pre .1 .0)
 
   residual-of-atom-requires : constraint-lts.Need-residual-of-atom-requires constraint-calls constraint-at constraint.Post
   residual-of-atom-requires c κs =
       let r = c .before .before .before .before in
-      let a = atom-node _ _ _ _ (start r .pre .1 .0) _ _ (sym (r .record-in .ensures) ∙ c .before .before .relation .given .1) in
-      (a, start r .pre .1 .1 .long _ a)
+      let w = told r (c .before .before .relation .given .1) in
+      (w .1, start r .pre .1 .1 .long _ (w .1))
 
   sub-evaluate-constraint-residual : constraint-lts.Need-sub-evaluate-constraint-residual constraint-calls constraint-at constraint.Post
-  sub-evaluate-constraint-residual c = inner (c .before .before) (c .enum-told .given .1) refl .0
+  sub-evaluate-constraint-residual c = told (c .before .before) (c .enum-told .given .1) .1
 
   evaluate-constraint-residual-requires : constraint-lts.Need-evaluate-constraint-residual-requires constraint-calls constraint-at constraint.Post
   evaluate-constraint-residual-requires c κs =
       let r = c .before .before .before in
-      let w = inner r (c .before .enum-told .given .1) refl in
-      (omega arith, (w .1, start r .pre .1 .1))
+      let w = told r (c .before .enum-told .given .1) in
+      (omega arith, (w .2, start r .pre .1 .1))
 
   residual-each-requires : constraint-lts.Need-residual-each-requires constraint-calls constraint-at constraint.Post
   residual-each-requires c κs =
       let r = c .before .before .before .before in
-      (omega arith, (and-taken _ _ _ _ (start r .pre .1 .0) _ (sym (r .record-in .ensures) ∙ c .before .before .m .given .1), start r .pre .1 .1))
-
-  residual-each-requires-2 : constraint-lts.Need-residual-each-requires-2 constraint-calls constraint-at constraint.Post
-  residual-each-requires-2 c κs =
-      let r = c .before .before .before .before in
-      (omega arith, (or-taken _ _ _ _ (start r .pre .1 .0) _ (sym (r .record-in .ensures) ∙ c .before .before .m2 .given .1), start r .pre .1 .1))
+      (omega arith, (told r (c .before .before .any .given .1) .1, start r .pre .1 .1))
 
   sub-residual-samples : constraint-lts.Need-sub-residual-samples constraint-calls constraint-at constraint.Post
-  sub-residual-samples c = inner (c .before .before .before) (c .before .v .given .1) refl .0
+  sub-residual-samples c = told (c .before .before .before) (c .before .q .given .1) .1
 
   residual-samples-requires : constraint-lts.Need-residual-samples-requires constraint-calls constraint-at constraint.Post
   residual-samples-requires c κs =
       let r = c .before .before .before .before in
-      let w = inner r (c .before .before .v .given .1) refl in
-      (omega arith, (w .1, start r .pre .1 .1))
-
-  sub-residual-samples-2 : constraint-lts.Need-sub-residual-samples-2 constraint-calls constraint-at constraint.Post
-  sub-residual-samples-2 c = inner (c .before .before .before) (c .before .v2 .given .1) refl .0
-
-  residual-samples-requires-2 : constraint-lts.Need-residual-samples-requires-2 constraint-calls constraint-at constraint.Post
-  residual-samples-requires-2 c κs =
-      let r = c .before .before .before .before in
-      let w = inner r (c .before .before .v2 .given .1) refl in
-      (omega arith, (w .1, start r .pre .1 .1))
+      let w = told r (c .before .before .q .given .1) in
+      (omega arith, (w .2, start r .pre .1 .1))
 
   returns : constraint-lts.Need-returns constraint-calls constraint-at constraint.Post
   unfolding residual
   returns c =
       let f = c .before .before in
-      let r = f .before .before .before .before .before in
-      rw (at-atom _ _ _ _ (start r .pre .1 .0) _ _ (sym (r .record-in .ensures) ∙ f .before .before .before .relation .given .1)) (f .residual-of-atom .ensures)
+      rw (told (f .before .before .before .before .before) (f .before .before .before .relation .given .1) .0) (f .residual-of-atom .ensures)
 
   returns-2 : constraint-lts.Need-returns-2 constraint-calls constraint-at constraint.Post
   unfolding residual
   returns-2 c =
       let f = c .before .before .before in
-      let r = f .before .before .before .before in
-      rw (at-not _ _ _ _ (start r .pre .1 .0) (sym (r .record-in .ensures) ∙ f .before .before .enum-told .given .1)) (c .residual-of-not .ensures ∙ ap residualOfNot (f .evaluate-constraint-residual .ensures))
+      rw (told (f .before .before .before .before) (f .before .before .enum-told .given .1) .0) (c .residual-of-not .ensures ∙ ap residualOfNot (f .evaluate-constraint-residual .ensures))
 
   returns-3 : constraint-lts.Need-returns-3 constraint-calls constraint-at constraint.Post
   returns-3 c =
       let f = c .before .before in
-      let r = f .before .before .before .before .before in
-      rw (at-and _ _ _ _ (start r .pre .1 .0) _ (sym (r .record-in .ensures) ∙ f .before .before .before .m .given .1)) (f .residual-each .ensures)
+      rw (told (f .before .before .before .before .before) (f .before .before .before .any .given .1) .0) (f .residual-each .ensures)
 
   returns-4 : constraint-lts.Need-returns-4 constraint-calls constraint-at constraint.Post
   returns-4 c =
       let f = c .before .before in
-      let r = f .before .before .before .before .before in
-      rw (at-or _ _ _ _ (start r .pre .1 .0) _ (sym (r .record-in .ensures) ∙ f .before .before .before .m2 .given .1)) (f .residual-each2 .ensures)
-
-  returns-5 : constraint-lts.Need-returns-5 constraint-calls constraint-at constraint.Post
-  returns-5 c =
-      let f = c .before .before in
-      let r = f .before .before .before .before .before in
-      rw (at-forall _ _ _ _ (start r .pre .1 .0) _ _ _ (sym (r .record-in .ensures) ∙ f .before .before .before .v .given .1)) (f .residual-samples .ensures)
-
-  returns-6 : constraint-lts.Need-returns-6 constraint-calls constraint-at constraint.Post
-  returns-6 c =
-      let f = c .before .before in
-      let r = f .before .before .before .before .before in
-      rw (at-exists _ _ _ _ (start r .pre .1 .0) _ _ _ (sym (r .record-in .ensures) ∙ f .before .before .before .v2 .given .1)) (f .residual-samples2 .ensures)
+      rw (told (f .before .before .before .before .before) (f .before .before .before .q .given .1) .0) (f .residual-samples .ensures)
 
   -- ---- residual_each
   each-returns : each-lts.Need-returns each-calls each-at each.Post
@@ -247,7 +216,7 @@ module _ (t : ℕ) where
   samples-loop-holds c =
       let p = c .before in
       let a = p .before .before .before .before .before .args in
-      (omega arith, refl, ap₂ (after (sampleMore (a .any)) _) (c .residual-of-none .ensures) (p .samples .ensures) ∙ all-left _ _ (a .v) (a .lo) (a .hi) _ (a .any))
+      (omega arith, refl, ap₂ (after (sampleMore (a .q .any)) _) (c .residual-of-none .ensures) (p .samples .ensures) ∙ all-left _ _ (a .q .v) (a .q .lo) (a .q .hi) _ (a .q .any))
 
   samples-array-read-sampled : samples-lts.Need-array-read-sampled samples-calls samples-at samples.Post Inv-loop μ-loop
   samples-array-read-sampled c = omega (arith, ap length (c .before .before .before .samples .ensures))
@@ -258,19 +227,19 @@ module _ (t : ℕ) where
   samples-array-share-prefix-inner : samples-lts.Need-array-share-prefix-inner samples-calls samples-at samples.Post Inv-loop μ-loop
   samples-array-share-prefix-inner c =
       let a = c .before .before .before .before .before .before .before .before .before .args in
-      sample-there (c .sampled .result) (now (a .point)) (a .v) _ (c .sampled .ensures)
+      sample-there (c .sampled .result) (now (a .point)) (a .q .v) _ (c .sampled .ensures)
 
   samples-slice-aggregate-evaluate-constraint-residual : samples-lts.Need-slice-aggregate-evaluate-constraint-residual samples-calls samples-at samples.Post Inv-loop μ-loop
   samples-slice-aggregate-evaluate-constraint-residual c =
       let a = c .before .before .before .before .before .before .before .before .before .before .args in
-      sample-length (c .before .sampled .result) (now (a .point)) (a .v) _ (c .before .sampled .ensures)
+      sample-length (c .before .sampled .result) (now (a .point)) (a .q .v) _ (c .before .sampled .ensures)
 
   samples-evaluate-constraint-residual-requires : samples-lts.Need-evaluate-constraint-residual-requires samples-calls samples-at samples.Post Inv-loop μ-loop
   samples-evaluate-constraint-residual-requires c κs =
       let f = c .before .before in
       let l = f .before .before in
       let s = l .before .before .before .before .before .before .before in
-      (omega arith, (s .pre .1 .0, sample-room _ _ (s .args .v) _ (f .sampled .ensures) (s .pre .1 .1) (l .loop .inv .1)))
+      (omega arith, (s .pre .1 .0, sample-room _ _ (s .args .q .v) _ (f .sampled .ensures) (s .pre .1 .1) (l .loop .inv .1)))
 
   samples-loop-again : samples-lts.Need-loop-again samples-calls samples-at samples.Post Inv-loop μ-loop
   samples-loop-again c =
@@ -281,7 +250,7 @@ module _ (t : ℕ) where
       let a = p .before .before .before .before .before .args in (
         omega arith,
         f .evaluate-constraint-residual .kept .1 .1 .1 .1 .1 .1 .0 ∙ l .loop .inv .1,
-        one-left _ _ (a .v) (a .lo) (a .hi) _ (a .any) (p .samples .ensures) _ _ (l .loop .inv .2) (g .before .loop-test .taken) (f .evaluate-constraint-residual .result) _ (rw (sym (g .sampled .ensures)) (f .evaluate-constraint-residual .ensures)) (c .sample-more .ensures),
+        one-left _ _ (a .q .v) (a .q .lo) (a .q .hi) _ (a .q .any) (p .samples .ensures) _ _ (l .loop .inv .2) (g .before .loop-test .taken) (f .evaluate-constraint-residual .result) _ (rw (sym (g .sampled .ensures)) (f .evaluate-constraint-residual .ensures)) (c .sample-more .ensures),
       )
 
   samples-same-length : samples-lts.Need-same-length samples-calls samples-at samples.Post Inv-loop μ-loop
@@ -291,7 +260,7 @@ module _ (t : ℕ) where
   samples-returns c =
       let p = c .before .before .before in
       let a = p .before .before .before .before .before .args in
-      none-left _ _ (a .v) (a .lo) (a .hi) _ (a .any) (p .samples .ensures) _ _ (c .before .loop .inv .2) (c .loop-test .left)
+      none-left _ _ (a .q .v) (a .q .lo) (a .q .hi) _ (a .q .any) (p .samples .ensures) _ _ (c .before .loop .inv .2) (c .loop-test .left)
 
 pub +evaluate-constraint-residual+residual-each+residual-samples-spec : {M : Type 1} → statement M
 +evaluate-constraint-residual+residual-each+residual-samples-spec =
@@ -300,7 +269,7 @@ pub +evaluate-constraint-residual+residual-each+residual-samples-spec : {M : Typ
     μ-each
     μ-samples
     (λ t. constraint-lts.spec (constraint-calls t) (constraint-at t) constraint.Post
-    (record-in-requires t)
+    (shape-in-requires t)
     (λ c. search needs)
     (residual-of-atom-requires t)
     (λ c. search needs)
@@ -310,13 +279,8 @@ pub +evaluate-constraint-residual+residual-each+residual-samples-spec : {M : Typ
     (λ c. search needs)
     (residual-each-requires t)
     (λ c. search needs)
-    (residual-each-requires-2 t)
-    (λ c. search needs)
     (sub-residual-samples t)
     (residual-samples-requires t)
-    (λ c. search needs)
-    (sub-residual-samples-2 t)
-    (residual-samples-requires-2 t)
     (λ c. search needs)
     (returns t)
     (λ c. search needs)
@@ -324,11 +288,7 @@ pub +evaluate-constraint-residual+residual-each+residual-samples-spec : {M : Typ
     (λ c. search needs)
     (returns-3 t)
     (λ c. search needs)
-    (returns-4 t)
-    (λ c. search needs)
-    (returns-5 t)
-    (λ c. search needs)
-    (returns-6 t))
+    (returns-4 t))
     (λ t. each-lts.spec (each-calls t) (each-at t) each.Post
     (λ c κs. search needs)
     (each-returns t)
