@@ -81,10 +81,18 @@ place h (PushConst v) = h
 place h (PushVar i) = h
 place h Eml = h - 2
 
+-- what a turn stores in the stack's parts: the instruction's value, at its place
+pub record Stored (σ : Settings) (p re im : List Float) (h : ℕ) (i : Instruction) (re′ im′ : List Float) (j : ℕ) : Type 0 where
+  pub value : Complex
+  pub is : outcome σ p re im h i ≡ Value value
+  pub here : j ≡ place h i
+  pub real-part : re′ ≡ set re (place h i) (value .re)
+  pub imaginary-part : im′ ≡ set im (place h i) (value .im)
+
 -- by the instruction that was read
-pub by : (σ : Settings) (p re im : List Float) (h : ℕ) {i x : Instruction} {j : ℕ} {out : EvaluatedComplex} → i ≡ x → j ≡ place h x → out ≡ outcome σ p re im h x →
-    (j ≡ place h i) × (out ≡ outcome σ p re im h i)
-by σ p re im h e f g = (f ∙ ap (place h) (sym e), g ∙ ap (outcome σ p re im h) (sym e))
+pub by : {σ : Settings} {p re im re′ im′ : List Float} {h j : ℕ} {i x : Instruction} {out : EvaluatedComplex} {z : Complex} → i ≡ x → out ≡ outcome σ p re im h x → out ≡ Value z →
+    j ≡ place h x → re′ ≡ set re (place h x) (z .re) → im′ ≡ set im (place h x) (z .im) → Stored σ p re im h i re′ im′ j
+by {z = z} e f g k r s = rw e record { value = z; is = sym f ∙ g; here = k; real-part = r; imaginary-part = s }
 
 placed : (cap h : ℕ) (i : Instruction) → h ≤ cap → Fit cap h i → (height h i ≡ place h i + 1) × (place h i < cap)
 placed cap h PushOne l f = (refl, f)
@@ -127,31 +135,28 @@ module _ {σ : Settings} {p : List Float} {goal : Stack} {cap : ℕ} {re im : Li
         ap (λ (o : Stack). onwards o (λ u. run σ p rest u)) (sym (stepping σ p re im cap h i fit))
         ∙ ap (λ (d : List Instruction). run σ p d (stackOf re im h)) (sym e) ∙ st .same
 
-    module _ {j : ℕ} {out : EvaluatedComplex} (here : j ≡ place h i) (is-out : out ≡ outcome σ p re im h i) where
-      after : onwards (pushed out (stackOf re im j)) (λ u. run σ p rest u) ≡ goal
-      after = ap₂ (λ (o : EvaluatedComplex) (k : ℕ). onwards (pushed o (stackOf re im k)) (λ u. run σ p rest u)) is-out here ∙ stepped
+    -- its value stored
+    pub turn : {re′ im′ : List Float} {j : ℕ} → Stored σ p re im h i re′ im′ j → State σ p goal cap re′ im′ (j + 1) rest
+    unfolding Balanced
+    turn s =
+        let w = placed cap h i (st .within) fit in
+        let z = s .value in
+        rw (s .real-part, s .imaginary-part, s .here) record {
+          long-re = length-set re (place h i) (z .re) ∙ st .long-re;
+          long-im = length-set im (place h i) (z .im) ∙ st .long-im;
+          within = omega arith;
+          balanced = subst (λ (x : ℕ). Balanced cap x rest) (w .0) (subst (Balanced cap h) e (st .balanced) .1);
+          same = ap (λ (u : List Complex). run σ p rest u) (pushes re im (place h i) z (there .0) (there .1))
+              ∙ ap (λ (o : EvaluatedComplex). onwards (pushed o (stackOf re im (place h i))) (λ u. run σ p rest u)) (sym (s .is)) ∙ stepped;
+        }
 
-      -- its value stored
-      pub turn : {z : Complex} → out ≡ Value z → State σ p goal cap (set re j (z .re)) (set im j (z .im)) (j + 1) rest
-      unfolding Balanced
-      turn {z} v =
-          let w = placed cap h i (st .within) fit in
-          let r = subst (Balanced cap h) e (st .balanced) .1 in
-          record {
-            long-re = length-set re j (z .re) ∙ st .long-re;
-            long-im = length-set im j (z .im) ∙ st .long-im;
-            within = omega arith;
-            balanced = subst (λ (x : ℕ). Balanced cap x rest) (w .0 ∙ ap (λ (k : ℕ). k + 1) (sym here)) r;
-            same = ap (λ (u : List Complex). run σ p rest u) (pushes re im j z (omega (arith, st .long-re)) (omega (arith, st .long-im)))
-                ∙ ap (λ (o : EvaluatedComplex). onwards (pushed o (stackOf re im j)) (λ u. run σ p rest u)) (sym v) ∙ after;
-          }
-
-      pub stop : OneOf (1 ∷ []) (tagOf the-type out) → out ≡ result goal
-      stop w = go out w after
-        where
-          go : (o : EvaluatedComplex) → OneOf (1 ∷ []) (tagOf the-type o) → onwards (pushed o (stackOf re im j)) (λ u. run σ p rest u) ≡ goal → o ≡ result goal
-          go (Value z) w q = absurd (omega arith)
-          go (Failed x) w q = ap result q
+    -- it has none
+    pub stop : {out : EvaluatedComplex} → out ≡ outcome σ p re im h i → OneOf (1 ∷ []) (tagOf the-type out) → out ≡ result goal
+    stop {out} f w = go out w (ap (λ (o : EvaluatedComplex). onwards (pushed o (stackOf re im (place h i))) (λ u. run σ p rest u)) f ∙ stepped)
+      where
+        go : (o : EvaluatedComplex) → OneOf (1 ∷ []) (tagOf the-type o) → onwards (pushed o (stackOf re im (place h i))) (λ u. run σ p rest u) ≡ goal → o ≡ result goal
+        go (Value z) w q = absurd (omega arith)
+        go (Failed x) w q = ap result q
 
   pub ended : is ≡ [] → (1 ≤ cap) × (Value (valueAt re im 0) ≡ result goal)
   unfolding run Balanced

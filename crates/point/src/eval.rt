@@ -5,7 +5,7 @@ use tree::Node;
 ghost use mathlib.Core.Path.{_≡_};
 ghost use mathlib.Core.List.{[]};
 ghost use Prim.Native.Nat.{_<_, _≤_, _+_};
-ghost use lib.ListN.{length};
+ghost use lib.ListN.{length, set};
 ghost use lib.Ieee.{isNan};
 ghost use Rattle.tree.specs.Tree.{size};
 ghost use Rattle.tree.specs.Nodes.{Valid, treeAt};
@@ -74,7 +74,7 @@ fn is_nan(x: f64) -> bool
     x != x
 }
 
-fn clamp(x: f64, most: f64) -> f64
+fn clamp(most: f64, x: f64) -> f64
     ensures { λ r. ⌜ r ≡ clamped most x ⌝ }
 {
     if x > most {
@@ -86,7 +86,7 @@ fn clamp(x: f64, most: f64) -> f64
     x
 }
 
-fn is_beyond(x: f64, most: f64) -> bool
+fn is_beyond(most: f64, x: f64) -> bool
     ensures { λ r. ⌜ r ≡ beyond most x ⌝ }
 {
     (x > most) | (x < -most)
@@ -96,11 +96,11 @@ fn is_beyond(x: f64, most: f64) -> bool
 fn eml_complex(settings: Settings, left: Complex, right: Complex) -> EvaluatedComplex
     ensures { λ x. ⌜ x ≡ emlComplex settings left right ⌝ }
 {
-    if settings.strict & is_beyond(left.re, settings.clamp) {
+    if settings.strict & is_beyond(settings.clamp, left.re) {
         return EvaluatedComplex::Failed(EvalError::ExpOverflow(left.re));
     }
     let e = maths::complex_exp(Complex {
-        re: clamp(left.re, settings.clamp),
+        re: clamp(settings.clamp, left.re),
         im: left.im,
     });
     let n = maths::complex_ln(right);
@@ -142,6 +142,15 @@ fn stacked(i: usize, re: &[f64], im: &[f64]) -> Complex
     }
 }
 
+// Puts z at place i of the stack.
+fn put(i: usize, z: Complex, re: &mut [f64], im: &mut [f64])
+    requires { ⌜ (i < length (now re)) × (i < length (now im)) ⌝ }
+    ensures { λ _. ⌜ (final re ≡ set (old re) i (z .re)) × (final im ≡ set (old im) i (z .im)) ⌝ }
+{
+    re[i] = z.re;
+    im[i] = z.im;
+}
+
 // Runs the instructions of the first n nodes of order. The stack's values have their parts in re and im.
 fn run(
     nodes: &[u8],
@@ -160,20 +169,25 @@ fn run(
     while j < n {
         let k = order[j] as usize;
         j += 1;
-        let out = match instruction_of(tree::node_in(nodes, k)) {
-            Instruction::PushOne => EvaluatedComplex::Value(real(1.0)),
-            Instruction::PushConst(v) => EvaluatedComplex::Value(real(v)),
-            Instruction::PushVar(i) => variable(i, point),
+        match instruction_of(tree::node_in(nodes, k)) {
+            Instruction::PushOne => put(top, real(1.0), re, im),
+            Instruction::PushConst(v) => put(top, real(v), re, im),
+            Instruction::PushVar(i) => {
+                let out = variable(i, point);
+                let EvaluatedComplex::Value(z) = out else {
+                    return out;
+                };
+                put(top, z, re, im);
+            }
             Instruction::Eml => {
                 top -= 2;
-                eml_complex(settings, stacked(top, re, im), stacked(top + 1, re, im))
+                let out = eml_complex(settings, stacked(top, re, im), stacked(top + 1, re, im));
+                let EvaluatedComplex::Value(z) = out else {
+                    return out;
+                };
+                put(top, z, re, im);
             }
-        };
-        let EvaluatedComplex::Value(z) = out else {
-            return out;
-        };
-        re[top] = z.re;
-        im[top] = z.im;
+        }
         top += 1;
     }
     EvaluatedComplex::Value(stacked(0, re, im))

@@ -13,7 +13,7 @@ use Rattle.point.specs.declared.eval.Instruction.{Instruction}
 use Rattle.point.specs.declared.eval.EvaluatedComplex.{EvaluatedComplex}
 use Rattle.point.specs.Eval.{real, emlComplex}
 use Rattle.point.specs.Machine.{instructions, instructionOf, run}
-use Rattle.point.proofs.Loop.{State, next, done, fit, there, outcome, place, by, turn, stop, ended}
+use Rattle.point.proofs.Loop.{State, next, done, fit, there, place, Stored, by, turn, stop, ended}
 use Rattle.point.proofs.eval.run.Statement.{statement}
 use Rattle.point.proofs.eval.run.Tie as tie
 
@@ -41,33 +41,32 @@ told c x q =
     next _ _ _ (start (head c) .pre .within) (head c .loop .j) (c .before .before .before .loop-test .taken)
     ∙ ap (λ (y : Instruction). y ∷ drop (head c .loop .j + 1) (program (head c))) (sym (c .instruction-of .ensures ∙ ap instructionOf (c .before .node-in .ensures)) ∙ q)
 
+-- its place is there
+room : (c : tie.After-instruction-of Inv-loop μ-loop) {x : Instruction} → c .instruction-of .result ≡ x →
+    let h = head c in (place (h .loop .top) x < length (h .loop .re)) × (place (h .loop .top) x < length (h .loop .im))
+room c q = there (head c .loop .inv .1) (told c _ q)
+
 -- before an Eml the stack holds two values
-two-there : (c : tie.After-enum-told2 Inv-loop μ-loop) →
+two-there : (c : tie.After-enum-told3 Inv-loop μ-loop) →
     let h = head (c .before .before) in (2 ≤ h .loop .top) × (h .loop .top ≤ length (h .loop .re)) × (h .loop .top ≤ length (h .loop .im))
 two-there c =
     let i = head (c .before .before) .loop .inv .1 in
-    (fit i (told (c .before .before) _ (c .enum-told2 .given .1)), omega (arith, i .within, i .long-re), omega (arith, i .within, i .long-im))
+    (fit i (told (c .before .before) _ (c .enum-told3 .given .1)), omega (arith, i .within, i .long-re), omega (arith, i .within, i .long-im))
 
--- where the arms meet: the instruction's value and its place
+-- where the arms meet: the instruction's value is at its place
 met : (c : tie.At-match-came Inv-loop μ-loop) →
     let h = head (c .before) in
     let a = start h .args in
-    let i = c .before .instruction-of .result in
-    (c .match .top ≡ place (h .loop .top) i) × (c .match .out ≡ outcome (a .settings) (a .point .now) (h .loop .re) (h .loop .im) (h .loop .top) i)
+    Stored (a .settings) (a .point .now) (h .loop .re) (h .loop .im) (h .loop .top) (c .before .instruction-of .result) (c .match .re) (c .match .im) (c .match .top)
 met c =
     ⊎-elim
-    (λ w. by _ _ _ _ _ (w .1 .given .1) (w .3) (w .4 ∙ ap EvaluatedComplex.Value (w .2 .ensures ∙ ap (λ (x : Float). real x) one-is)))
+    (λ w. by (w .1 .given .1) (ap EvaluatedComplex.Value (w .2 .ensures ∙ ap (λ (x : Float). real x) one-is)) refl (w .12) (w .10 ∙ w .5 .ensures .0) (w .11 ∙ w .5 .ensures .1))
     (⊎-elim
-    (λ w. by _ _ _ _ _ (w .1 .given .1) (w .4) (w .5 ∙ ap EvaluatedComplex.Value (w .3 .ensures)))
+    (λ w. by (w .1 .given .1) (ap EvaluatedComplex.Value (w .3 .ensures)) refl (w .13) (w .11 ∙ w .6 .ensures .0) (w .12 ∙ w .6 .ensures .1))
     (⊎-elim
-    (λ w. by _ _ _ _ _ (w .1 .given .1) (w .4) (w .5 ∙ w .3 .ensures))
-    (λ w. by _ _ _ _ _ (w .1 .given .1) (w .9) (w .10 ∙ w .8 .ensures ∙ ap₂ (emlComplex _) (w .4 .ensures) (w .7 .ensures)))))
+    (λ w. by (w .1 .given .1) (w .3 .ensures) (w .5 .given .1) (w .16) (w .14 ∙ w .9 .ensures .0) (w .15 ∙ w .9 .ensures .1))
+    (λ w. by (w .1 .given .1) (w .8 .ensures ∙ ap₂ (emlComplex _) (w .4 .ensures) (w .7 .ensures)) (w .10 .given .1) (w .21) (w .19 ∙ w .14 .ensures .0) (w .20 ∙ w .14 .ensures .1))))
     (c .match .came)
-
-here : (c : tie.At-match-came Inv-loop μ-loop) → (c .match .top < length (head (c .before) .loop .re)) × (c .match .top < length (head (c .before) .loop .im))
-here c =
-    let w = there (head (c .before) .loop .inv .1) (told (c .before) _ refl) in
-    (omega (arith, met c .0), omega (arith, met c .0))
 
 loop-holds : tie.Need-loop-holds Inv-loop μ-loop
 loop-holds c =
@@ -86,6 +85,27 @@ cast-k c = omega (arith, c .shared-slice-known4 .given (c .before .before .loop 
 node-in-requires : tie.Need-node-in-requires Inv-loop μ-loop
 node-in-requires c κs = start (c .before .before) .pre .numbers .there _ (c .before .loop-test .taken)
 
+put-requires : tie.Need-put-requires Inv-loop μ-loop
+put-requires c κs = room (c .before .before .before .before .before) (c .before .before .before .enum-told .given .1)
+
+put-requires-2 : tie.Need-put-requires-2 Inv-loop μ-loop
+put-requires-2 c κs = room (c .before .before .before .before .before .before) (c .before .before .before .before .v .given .1)
+
+same-length : tie.Need-same-length Inv-loop μ-loop
+same-length c = head (c .before .before .before .before .before .before) .loop .inv .1 .long-re
+
+same-length-2 : tie.Need-same-length-2 Inv-loop μ-loop
+same-length-2 c = let h = head (c .before .before .before .before .before .before) in h .loop .inv .1 .long-im ∙ sym (start h .pre .same)
+
+returns : tie.Need-returns Inv-loop μ-loop
+returns c =
+    let r = c .before .before in
+    let i = r .before .before .before .before in
+    stop (head i .loop .inv .1) (told i _ (r .before .before .i .given .1)) (r .variable .ensures) (c .before .match2 .keys2)
+
+put-requires-3 : tie.Need-put-requires-3 Inv-loop μ-loop
+put-requires-3 c κs = let r = c .before .before .before .before .before .before .before in room (r .before .before) (r .i .given .1)
+
 sub-top : tie.Need-sub-top Inv-loop μ-loop
 sub-top c = two-there c .0
 
@@ -98,36 +118,33 @@ add-stacked c = omega (arith, two-there (c .before .before .before))
 stacked-requires-2 : tie.Need-stacked-requires-2 Inv-loop μ-loop
 stacked-requires-2 c κs = let w = two-there (c .before .before .before .before .before) in (omega arith, omega arith)
 
-same-length : tie.Need-same-length Inv-loop μ-loop
-same-length c = head (c .before .before .before) .loop .inv .1 .long-re
+same-length-3 : tie.Need-same-length-3 Inv-loop μ-loop
+same-length-3 c = head (c .before .before .before .before .before .before .before .before .before .before .before) .loop .inv .1 .long-re
 
-same-length-2 : tie.Need-same-length-2 Inv-loop μ-loop
-same-length-2 c = let h = head (c .before .before .before) in h .loop .inv .1 .long-im ∙ sym (start h .pre .same)
+same-length-4 : tie.Need-same-length-4 Inv-loop μ-loop
+same-length-4 c = let h = head (c .before .before .before .before .before .before .before .before .before .before .before) in h .loop .inv .1 .long-im ∙ sym (start h .pre .same)
 
-returns : tie.Need-returns Inv-loop μ-loop
-returns c =
-    let m = c .before .before in
-    stop (head (m .before) .loop .inv .1) (told (m .before) _ refl) (met m .0) (met m .1) (c .before .match2 .keys2)
+returns-2 : tie.Need-returns-2 Inv-loop μ-loop
+returns-2 c =
+    let r = c .before .before in
+    let l = r .before .before .before .before in
+    let t = l .before .before .before in
+    let i = t .before .before in
+    stop (head i .loop .inv .1) (told i _ (t .enum-told3 .given .1)) (r .eml-complex .ensures ∙ ap₂ (emlComplex _) (l .stacked .ensures) (r .before .stacked2 .ensures)) (c .before .match3 .keys2)
 
-mul-re : tie.Need-mul-re Inv-loop μ-loop
-mul-re c = omega (arith, here (c .before .before .before .before))
-
-slice-write-re : tie.Need-slice-write-re Inv-loop μ-loop
-slice-write-re c = here (c .before .before .before .before) .0
-
-mul-im : tie.Need-mul-im Inv-loop μ-loop
-mul-im c = omega (arith, here (c .before .before .before .before))
-
-slice-write-im : tie.Need-slice-write-im Inv-loop μ-loop
-slice-write-im c = here (c .before .before .before .before) .1
+put-requires-4 : tie.Need-put-requires-4 Inv-loop μ-loop
+put-requires-4 c κs = let t = c .before .before .before .before .before .before .before .before .before .before .before .before in room (t .before .before) (t .enum-told3 .given .1)
 
 add-top : tie.Need-add-top Inv-loop μ-loop
-add-top c = omega (arith, here (c .before .before .before .before))
+add-top c =
+    let m = c .before in
+    let h = head (m .before) in
+    omega (arith, met m .here, room (m .before) refl .0, h .loop .inv .1 .long-re, start h .good)
 
 loop-again : tie.Need-loop-again Inv-loop μ-loop
 loop-again c =
-    let m = c .before .before .before .before in
-    (omega arith, turn (head (m .before) .loop .inv .1) (told (m .before) _ refl) (met m .0) (met m .1) (c .before .before .out .given .1))
+    let m = c .before in
+    (omega arith, turn (head (m .before) .loop .inv .1) (told (m .before) _ refl) (met m))
 
 stacked-requires-3 : tie.Need-stacked-requires-3 Inv-loop μ-loop
 stacked-requires-3 c κs =
@@ -136,14 +153,14 @@ stacked-requires-3 c κs =
     let w = ended (h .loop .inv .1) (done _ _ _ (start h .pre .within) _ (e .loop-test .left) (h .loop .inv .0)) .0 in
     (omega (arith, h .loop .inv .1 .long-re), omega (arith, h .loop .inv .1 .long-im))
 
-same-length-3 : tie.Need-same-length-3 Inv-loop μ-loop
-same-length-3 c = c .before .before .before .before .loop .inv .1 .long-re
+same-length-5 : tie.Need-same-length-5 Inv-loop μ-loop
+same-length-5 c = c .before .before .before .before .loop .inv .1 .long-re
 
-same-length-4 : tie.Need-same-length-4 Inv-loop μ-loop
-same-length-4 c = let h = c .before .before .before .before in h .loop .inv .1 .long-im ∙ sym (start h .pre .same)
+same-length-6 : tie.Need-same-length-6 Inv-loop μ-loop
+same-length-6 c = let h = c .before .before .before .before in h .loop .inv .1 .long-im ∙ sym (start h .pre .same)
 
-returns-2 : tie.Need-returns-2 Inv-loop μ-loop
-returns-2 c =
+returns-3 : tie.Need-returns-3 Inv-loop μ-loop
+returns-3 c =
     let e = c .before .before .before in
     let h = e .before in
     ap EvaluatedComplex.Value (c .stacked3 .ensures) ∙ ended (h .loop .inv .1) (done _ _ _ (start h .pre .within) _ (e .loop-test .left) (h .loop .inv .0)) .1
@@ -163,10 +180,18 @@ run-spec =
     (λ c κs. search needs)
     (λ c. search needs)
     (λ c κs. search needs)
+    put-requires
+    (λ c. search needs)
+    (λ c κs. search needs)
+    put-requires-2
     (λ c. search needs)
     (λ c κs. search needs)
     (λ c. search needs)
-    (λ c κs. search needs)
+    (λ c. search needs)
+    same-length
+    same-length-2
+    returns
+    put-requires-3
     (λ c. search needs)
     sub-top
     stacked-requires
@@ -175,17 +200,14 @@ run-spec =
     (λ c κs. search needs)
     (λ c. search needs)
     (λ c. search needs)
-    same-length
-    same-length-2
-    returns
-    mul-re
-    slice-write-re
-    mul-im
-    slice-write-im
+    same-length-3
+    same-length-4
+    returns-2
+    put-requires-4
     add-top
     (λ c. search needs)
     loop-again
     stacked-requires-3
-    same-length-3
-    same-length-4
-    returns-2)
+    same-length-5
+    same-length-6
+    returns-3)
