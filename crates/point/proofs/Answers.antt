@@ -1,30 +1,35 @@
 -- The answers of the calls on records. Assumes nothing.
-use Prim.Native.Nat.{ℕ, zero, suc, _+_, _-_, _/_, _%_, _≤_, _<_}
-use mathlib.Core.Path.{_≡_, refl, sym, ap, _∙_, subst}
+use Prim.Native.Nat.{ℕ, _+_, _-_, _/_, _%_, _≤_, _<_}
+use mathlib.Core.Path.{_≡_, sym, ap, _∙_, subst}
 use mathlib.Core.List.{List}
 use native.Mathlib.Omega.{arith}
-use borrow.Author.Tests.{le-leb, lt-leb, lt-ltb, le-ltb, ltb-true, ne-eqb}
+use borrow.Author.Tests.{le-leb, lt-leb, leb-true, lt-ltb, le-ltb, ltb-true, ne-eqb}
 use lib.Dec.{leb, eqb, ltb}
 use lib.Ieee.{Float}
 use lib.ListN.{length}
-use Rattle.number.specs.Notation.{if_then_else_}
 use Rattle.settings.specs.declared.Settings.{Settings}
-use Rattle.record.specs.Refusal.{_or-else_, _unless_}
-use Rattle.record.specs.RefusalLaws.{none-both, none-unless, or-else-refused}
+use Rattle.record.specs.Refusal.{_or-else_, _unless_, refusedOr}
+use Rattle.record.specs.RefusalLaws.{none-both, none-unless, or-else-refused, refused-or}
 use Rattle.tree.specs.Nodes.{listRefusal, treeAt, Valid}
 use Rattle.tree.specs.NodeLaws.{list-valid, prefix}
 use Rattle.tree.specs.Code.{Within}
-use Rattle.constraint.specs.Constraint.{Constraint}
-use Rattle.constraint.specs.Records.{constraintAt}
 use Rattle.constraint.specs.Starts.{Ready}
-use Rattle.file.specs.File.{givenRefusal, readGiven}
+use Rattle.file.specs.File.{givenRefusal}
 use Rattle.file.specs.Code.{givenStarts}
-use Rattle.file.specs.FileLaws.{given-refused, some-given, given-ready, given-is}
+use Rattle.file.specs.FileLaws.{some-given, given-ready}
 use Rattle.point.specs.declared.EvalAnswer.{EvalAnswer}
 use Rattle.point.specs.declared.eval.Evaluated.{Evaluated}
 use Rattle.point.specs.Eval.{evalReal}
 use Rattle.point.specs.Room.{Room}
-use Rattle.point.specs.Answer.{evalRefusal, evalBy, evalAnswer, pointed}
+use Rattle.point.specs.Answer.{evalRefusal, evalAnswered, evalAnswer, pointRefusal}
+
+-- ---- a call that is refused with r, or else answers
+module _ {A : Type 0} (refuse : ℕ → A) (answer : A) {r s : ℕ} (e : r ≡ s) where
+  pub refused : (r ≡ 0 → ⊥) → refuse r ≡ refusedOr s refuse answer
+  refused h = sym (refused-or r refuse answer h) ∙ ap (λ (n : ℕ). refusedOr n refuse answer) e
+
+  pub answered : r ≡ 0 → {x : A} → x ≡ answer → x ≡ refusedOr s refuse answer
+  answered z f = f ∙ ap (λ (n : ℕ). refusedOr n refuse answer) (sym z ∙ e)
 
 -- ---- eval_real
 
@@ -55,15 +60,6 @@ module _ (nodes : List ℕ) (k : ℕ) (p : List Float) where
       pub none-refused : k < length nodes / 16 → length p ≤ 16 → 0 ≡ evalRefusal nodes k p
       none-refused h g = sym (after-list ∙ rw (lt-ltb k (length nodes / 16) h, le-leb (length p) 16 g))
 
-  module _ (σ : Settings) where
-    pub eval-refused : (r : ℕ) → r ≡ evalRefusal nodes k p → (r ≡ 0 → ⊥) → EvalAnswer.Refused r ≡ evalAnswer σ nodes k p
-    unfolding evalAnswer
-    eval-refused r e h = go r h ∙ ap (λ (n : ℕ). evalBy n (evalReal σ p (treeAt nodes k))) e
-      where
-        go : (r : ℕ) → (r ≡ 0 → ⊥) → EvalAnswer.Refused r ≡ evalBy r (evalReal σ p (treeAt nodes k))
-        go zero h = absurd (h refl)
-        go (suc r) h = refl
-
   -- accepted
   module _ (r : ℕ) (e : r ≡ evalRefusal nodes k p) (z : r ≡ 0) where
     pub eval-valid : Valid nodes (k + 1)
@@ -75,35 +71,33 @@ module _ (nodes : List ℕ) (k : ℕ) (p : List Float) where
         prefix nodes (length nodes / 16) (list-valid nodes (length nodes / 16) (b .0)) (k + 1) (omega (arith, ltb-true k (length nodes / 16) (none-unless 2 (ltb k (length nodes / 16)) (d .0))))
 
     -- with settings s that are σ
-    pub eval-answered : (σ s : Settings) → s ≡ σ → (x : Evaluated) → x ≡ evalReal s p (treeAt nodes k) → evalBy 0 x ≡ evalAnswer σ nodes k p
+    pub eval-answered : (σ s : Settings) → s ≡ σ → (x : Evaluated) → x ≡ evalReal s p (treeAt nodes k) → evalAnswered x ≡ evalAnswer σ nodes k p
     unfolding evalAnswer
-    eval-answered σ s u x w =
-        ap (evalBy 0) (w ∙ ap (λ (s : Settings). evalReal s p (treeAt nodes k)) u)
-        ∙ ap (λ (n : ℕ). evalBy n (evalReal σ p (treeAt nodes k))) (sym z ∙ e)
+    eval-answered σ s u x w = answered EvalAnswer.Refused _ e z (ap evalAnswered (w ∙ ap (λ (s : Settings). evalReal s p (treeAt nodes k)) u))
 
--- ---- records
-module _ (nodes b : List ℕ) (r : ℕ) (g : r ≡ givenRefusal nodes b) where
-  module _ (p : List Float) {A : Type 0} (refuse : ℕ → A) (answer : Constraint → A) where
-    pub refused : (r ≡ 0 → ⊥) → refuse r ≡ pointed p refuse answer (readGiven nodes b)
-    refused h = sym (ap (pointed p refuse answer) (given-refused nodes b r g h))
+-- ---- records and a point
+module _ (nodes b : List ℕ) (p : List Float) where
+  pub records-refused : (r : ℕ) → r ≡ givenRefusal nodes b → (r ≡ 0 → ⊥) → r ≡ pointRefusal nodes b p
+  unfolding pointRefusal
+  records-refused r e h = or-else-refused r _ h ∙ ap (λ (n : ℕ). n or-else 9 unless leb (length p) 16) e
 
-    -- accepted
-    pub over : r ≡ 0 → 16 < length p → refuse 9 ≡ pointed p refuse answer (readGiven nodes b)
-    unfolding if_then_else_
-    over z h = sym (ap (pointed p refuse answer) (given-is nodes b (sym g ∙ z)) ∙ rw (lt-leb (length p) 16 h))
+  module _ (e : givenRefusal nodes b ≡ 0) where
+    pub over : 16 < length p → 9 ≡ pointRefusal nodes b p
+    unfolding pointRefusal
+    over h = sym (rw (e, lt-leb (length p) 16 h))
 
-    pub done : r ≡ 0 → length p ≤ 16 → {x : A} → x ≡ answer (constraintAt nodes b (length b / 24 - 1)) → x ≡ pointed p refuse answer (readGiven nodes b)
-    unfolding if_then_else_
-    done z h e = e ∙ sym (ap (pointed p refuse answer) (given-is nodes b (sym g ∙ z)) ∙ rw (le-leb (length p) 16 h))
+    pub few : length p ≤ 16 → 0 ≡ pointRefusal nodes b p
+    unfolding pointRefusal
+    few h = sym (rw (e, le-leb (length p) 16 h))
 
-  module _ (z : r ≡ 0) where
-    pub some-record : 1 ≤ length b / 24
-    some-record = some-given nodes b (sym g ∙ z)
+  pub accepted : pointRefusal nodes b p ≡ 0 → (givenRefusal nodes b ≡ 0) × (length p ≤ 16)
+  unfolding pointRefusal
+  accepted e = let w = none-both (givenRefusal nodes b) _ e in (w .0, leb-true _ _ (none-unless 8 (leb (length p) 16) (w .1)))
 
-    pub last-ready : (old starts : List ℕ) → length old ≡ 256 → starts ≡ givenStarts nodes b old → Ready nodes b (length b / 24 - 1 + 1) starts
-    last-ready old starts h s =
-        let m : length b / 24 ≡ length b / 24 - 1 + 1 = omega (arith, some-record) in
-        subst (λ (n : ℕ). Ready nodes b n starts) m (given-ready nodes b (sym g ∙ z) old starts h s)
+pub last-ready : (nodes b : List ℕ) → givenRefusal nodes b ≡ 0 → (old starts : List ℕ) → length old ≡ 256 → starts ≡ givenStarts nodes b old → Ready nodes b (length b / 24 - 1 + 1) starts
+last-ready nodes b e old starts h s =
+    let m : length b / 24 ≡ length b / 24 - 1 + 1 = omega (arith, some-given nodes b e) in
+    subst (λ (n : ℕ). Ready nodes b n starts) m (given-ready nodes b e old starts h s)
 
 -- ---- the room that is made for trees of at most n nodes
 pub short : (nodes : List ℕ) (p : List Float) (order : List ℕ) → length p ≤ 16 → (n : ℕ) → Within nodes (length nodes / 16) n → n ≤ length order → Room nodes p order

@@ -1,16 +1,14 @@
 -- The calls on records given without a file: the answer with the settings σ, or document 01's number of a refusal. The records are
 -- tested in the reader's order, then 9 for a point of over 16 values. Document 01's own calls are these with its own settings.
-use Prim.Native.Nat.{ℕ, zero, suc, _/_, _%_}
+use Prim.Native.Nat.{ℕ, _/_, _%_}
 use mathlib.Core.List.{List}
 use lib.Dec.{leb, ltb, eqb}
 use lib.Ieee.{Float}
 use lib.ListN.{length}
-use Rattle.number.specs.Notation.{if_then_else_}
 use Rattle.settings.specs.declared.Settings.{Settings}
-use Rattle.record.specs.Refusal.{_or-else_, _unless_}
+use Rattle.record.specs.Refusal.{_or-else_, _unless_, refusedOr}
 use Rattle.tree.specs.Nodes.{treeAt, listRefusal}
-use Rattle.constraint.specs.Constraint.{Constraint}
-use Rattle.file.specs.File.{Read, Refused, Accepted, readGiven}
+use Rattle.file.specs.File.{left, givenRefusal}
 use Rattle.point.specs.declared.EvalAnswer.{EvalAnswer}
 use Rattle.point.specs.declared.CheckAnswer.{CheckAnswer}
 use Rattle.point.specs.declared.ResidualAnswer.{ResidualAnswer}
@@ -27,21 +25,19 @@ evalRefusal nodes k p =
     or-else 3 unless ltb k (length nodes / 16)
     or-else 9 unless leb (length p) 16
 
-abbrev pub evalBy : ℕ → Evaluated → EvalAnswer
-evalBy (suc r) x = EvalAnswer.Refused (suc r)
-evalBy zero (Evaluated.Value v) = EvalAnswer.Value v
-evalBy zero (Evaluated.Failed e) = EvalAnswer.Failed e
+abbrev pub evalAnswered : Evaluated → EvalAnswer
+evalAnswered (Evaluated.Value v) = EvalAnswer.Value v
+evalAnswered (Evaluated.Failed e) = EvalAnswer.Failed e
 
 unfoldable pub evalAnswer : Settings → List ℕ → ℕ → List Float → EvalAnswer
-evalAnswer σ nodes k p = evalBy (evalRefusal nodes k p) (evalReal σ p (treeAt nodes k))
+evalAnswer σ nodes k p = refusedOr (evalRefusal nodes k p) EvalAnswer.Refused (evalAnswered (evalReal σ p (treeAt nodes k)))
 
--- ---- the constraint of node records and constraint records, at a point
-abbrev pub pointed : {A : Type 0} → List Float → (ℕ → A) → (Constraint → A) → Read → A
-pointed p refuse answer (Refused r) = refuse r
-pointed p refuse answer (Accepted c bounds) = if leb (length p) 16 then answer c else refuse 9
+-- ---- node records and constraint records: their own refusals, then 9; else of the constraint that they leave
+unfoldable pub pointRefusal : List ℕ → List ℕ → List Float → ℕ
+pointRefusal nodes b p = givenRefusal nodes b or-else 9 unless leb (length p) 16
 
 unfoldable pub checkAnswer : Settings → List ℕ → List ℕ → List Float → CheckAnswer
-checkAnswer σ nodes b p = pointed p CheckAnswer.Refused (λ c. CheckAnswer.Checked (check σ p c)) (readGiven nodes b)
+checkAnswer σ nodes b p = refusedOr (pointRefusal nodes b p) CheckAnswer.Refused (CheckAnswer.Checked (check σ p (left nodes b (length b / 24))))
 
 unfoldable pub residualAnswer : Settings → List ℕ → List ℕ → List Float → ResidualAnswer
-residualAnswer σ nodes b p = pointed p ResidualAnswer.Refused (λ c. ResidualAnswer.Residual (residual σ p c)) (readGiven nodes b)
+residualAnswer σ nodes b p = refusedOr (pointRefusal nodes b p) ResidualAnswer.Refused (ResidualAnswer.Residual (residual σ p (left nodes b (length b / 24))))

@@ -1,33 +1,17 @@
 -- The edges of document 01's "Testing a point", computed.
 use mathlib.Core.Path.{_≡_, refl}
-use mathlib.Core.Bool.{true, false}
 use mathlib.Core.List.{[], _∷_}
-use lib.IntN.{negsuc}
 use lib.Ieee.{nan}
-use Rattle.number.specs.Notation.{whole, integer, +∞}
+use Rattle.number.specs.Notation.{whole, +∞}
 use Rattle.settings.specs.Settings.{usual}
 use Rattle.tree.specs.Tree.{Tree}
 use Rattle.constraint.specs.declared.Relation.{Relation}
-use Rattle.constraint.specs.Constraint.{Atom, Not, And, Or, end}
+use Rattle.constraint.specs.Constraint.{Atom, And, Or, end}
 use Rattle.point.specs.declared.eval.EvalError.the-variants.{VarOutOfBounds, NanEncountered}
 use Rattle.point.specs.declared.eval.Evaluated.the-variants.{Failed}
 use Rattle.point.specs.Eval.{evalReal}
-use Rattle.point.specs.Check.{check}
 use Rattle.point.specs.Residual.{residual}
 use Rattle.point.specs.Computing.{computing}
-
--- ---- Not of EqZero of Eml(Const 0, Const -1), whose value is complex, passes, and its normal form does not
-
-abbrev turned : Tree
-turned = Tree.Eml (Tree.Const (whole 0)) (Tree.Const (integer (negsuc 0)))
-
-not-passes : check usual [] (Not (Atom Relation.EqZero turned)) ≡ true
-unfolding computing
-not-passes = refl
-
-normal-form-fails : check usual [] (Atom Relation.NeZero turned) ≡ false
-unfolding computing
-normal-form-fails = refl
 
 -- ---- the first error in postorder; a NaN in the point is met at the end
 

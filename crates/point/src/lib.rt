@@ -7,14 +7,21 @@ use eval::Evaluated;
 use settings::Settings;
 use tree::Tested;
 ghost use mathlib.Core.Path.{_≡_};
-ghost use Prim.Native.Nat.{_+_, _≤_};
+ghost use Prim.Native.Nat.{_+_, _/_, _≤_};
+ghost use lib.ListN.{length};
 ghost use Rattle.settings.specs.Settings.{usual};
 ghost use Rattle.tree.specs.Tree.{size};
 ghost use Rattle.tree.specs.Nodes.{Valid, treeAt};
+ghost use Rattle.tree.specs.Code.{Within};
+ghost use Rattle.constraint.specs.Starts.{Ready};
+ghost use Rattle.constraint.specs.Views.{the};
+ghost use Rattle.file.specs.Code.{givenStarts};
 ghost use Rattle.point.specs.Eval.{evalReal};
-ghost use Rattle.point.specs.Answer.{evalRefusal, evalAnswer, checkAnswer, residualAnswer};
+ghost use Rattle.point.specs.Check.{check};
+ghost use Rattle.point.specs.Residual.{residual as residualOf};
+ghost use Rattle.point.specs.Answer.{evalRefusal, evalAnswer, pointRefusal, checkAnswer, residualAnswer};
 ghost use Rattle.tree.specs.Views.{theTree};
-ghost use Rattle.record.specs.Views.{old};
+ghost use Rattle.record.specs.Views.{old, final};
 
 // A refusal is document 01's number.
 pub enum EvalAnswer {
@@ -96,41 +103,115 @@ pub fn eval_real(nodes: &[u8], node: usize, point: &[f64]) -> EvalAnswer
     }
 }
 
+// The tests of records and of a point, and where they pass a size that no tree is above.
+fn given_tested(
+    nodes: &[u8],
+    constraints: &[u8],
+    point: &[f64],
+    starts: &mut [usize; 256],
+) -> Tested
+    requires { ⌜ length (now starts) ≡ 256 ⌝ }
+    ensures { λ r. ⌜ r .refusal ≡ pointRefusal (old nodes) (old constraints) (old point) ⌝ }
+    ensures { λ _. ⌜ final starts ≡ givenStarts (old nodes) (old constraints) (old starts) ⌝ }
+    ensures { λ r. ⌜ (r .refusal ≡ 0 → Within (old nodes) (length (old nodes) / 16) (r .largest)) ⌝ }
+{
+    let t = file::test_sized(nodes, constraints, starts);
+    if t.refusal != 0 {
+        return t;
+    }
+    if 16 < point.len() {
+        return refused(9);
+    }
+    t
+}
+
+// The trees are of at most that size, as in eval_sized.
+fn check_sized(
+    nodes: &[u8],
+    constraints: &[u8],
+    starts: &[usize; 256],
+    k: usize,
+    largest: usize,
+    settings: Settings,
+    point: &[f64],
+) -> bool
+    requires { ⌜ Ready (now nodes) (now constraints) (k + 1) (now starts) ⌝ }
+    requires { ⌜ Within (now nodes) (length (now nodes) / 16) largest × (length (now point) ≤ 16) ⌝ }
+    ensures { λ r. ⌜ r ≡ check settings (old point) (the nodes constraints k) ⌝ }
+{
+    if largest <= 64 {
+        let mut order = [0u16; 64];
+        return helpers::check_constraint(
+            nodes,
+            constraints,
+            starts,
+            k,
+            settings,
+            point,
+            &mut order,
+        );
+    }
+    let mut order = [0u16; 4096];
+    helpers::check_constraint(nodes, constraints, starts, k, settings, point, &mut order)
+}
+
 // Whether the point passes the check of the constraint.
 pub fn check_constraint(nodes: &[u8], constraints: &[u8], point: &[f64]) -> CheckAnswer
     ensures { λ r. ⌜ r ≡ checkAnswer usual (old nodes) (old constraints) (old point) ⌝ }
 {
     let mut starts = [0usize; 256];
-    let t = file::test_sized(nodes, constraints, &mut starts);
+    let t = given_tested(nodes, constraints, point, &mut starts);
     if t.refusal != 0 {
         return CheckAnswer::Refused(t.refusal);
     }
-    if 16 < point.len() {
-        return CheckAnswer::Refused(9);
-    }
     let last = constraints.len() / 24 - 1;
-    if t.largest <= 64 {
-        let mut order = [0u16; 64];
-        return CheckAnswer::Checked(helpers::check_constraint(
-            nodes,
-            constraints,
-            &starts,
-            last,
-            settings::usual(),
-            point,
-            &mut order,
-        ));
-    }
-    let mut order = [0u16; 4096];
-    CheckAnswer::Checked(helpers::check_constraint(
+    let settings = settings::usual();
+    CheckAnswer::Checked(check_sized(
         nodes,
         constraints,
         &starts,
         last,
-        settings::usual(),
+        t.largest,
+        settings,
+        point,
+    ))
+}
+
+fn residual_sized(
+    nodes: &[u8],
+    constraints: &[u8],
+    starts: &[usize; 256],
+    k: usize,
+    largest: usize,
+    settings: Settings,
+    point: &[f64],
+) -> f64
+    requires { ⌜ Ready (now nodes) (now constraints) (k + 1) (now starts) ⌝ }
+    requires { ⌜ Within (now nodes) (length (now nodes) / 16) largest × (length (now point) ≤ 16) ⌝ }
+    ensures { λ r. ⌜ r ≡ residualOf settings (old point) (the nodes constraints k) ⌝ }
+{
+    if largest <= 64 {
+        let mut order = [0u16; 64];
+        return helpers::evaluate_constraint_residual(
+            nodes,
+            constraints,
+            starts,
+            k,
+            settings,
+            point,
+            &mut order,
+        );
+    }
+    let mut order = [0u16; 4096];
+    helpers::evaluate_constraint_residual(
+        nodes,
+        constraints,
+        starts,
+        k,
+        settings,
         point,
         &mut order,
-    ))
+    )
 }
 
 // How far the point is from meeting the constraint.
@@ -138,34 +219,19 @@ pub fn residual(nodes: &[u8], constraints: &[u8], point: &[f64]) -> ResidualAnsw
     ensures { λ r. ⌜ r ≡ residualAnswer usual (old nodes) (old constraints) (old point) ⌝ }
 {
     let mut starts = [0usize; 256];
-    let t = file::test_sized(nodes, constraints, &mut starts);
+    let t = given_tested(nodes, constraints, point, &mut starts);
     if t.refusal != 0 {
         return ResidualAnswer::Refused(t.refusal);
     }
-    if 16 < point.len() {
-        return ResidualAnswer::Refused(9);
-    }
     let last = constraints.len() / 24 - 1;
-    if t.largest <= 64 {
-        let mut order = [0u16; 64];
-        return ResidualAnswer::Residual(helpers::evaluate_constraint_residual(
-            nodes,
-            constraints,
-            &starts,
-            last,
-            settings::usual(),
-            point,
-            &mut order,
-        ));
-    }
-    let mut order = [0u16; 4096];
-    ResidualAnswer::Residual(helpers::evaluate_constraint_residual(
+    let settings = settings::usual();
+    ResidualAnswer::Residual(residual_sized(
         nodes,
         constraints,
         &starts,
         last,
-        settings::usual(),
+        t.largest,
+        settings,
         point,
-        &mut order,
     ))
 }
