@@ -7,7 +7,7 @@ use lib.Ieee.{binary64}
 use lib.ListN.{length, take, drop}
 use Rattle.number.specs.Sound.{sound}
 use Rattle.record.specs.Bytes.{u32At, f64At}
-use Rattle.record.specs.Refusal.{_or-else_, _unless_, first}
+use Rattle.record.specs.Refusal.{_or-else_, _unless_, refusedOr, first}
 use Rattle.tree.specs.Nodes.{nodesRefusal}
 use Rattle.constraint.specs.Constraint.{Constraint}
 use Rattle.constraint.specs.Records.{constraintAt, recordsRefusal}
@@ -82,8 +82,7 @@ pub data Read : Type 0 where
   Accepted : Constraint → List Interval → Read
 
 abbrev pub readBy : ℕ → Read → Read
-readBy zero r = r
-readBy (suc n) r = Refused (suc n)
+readBy r x = refusedOr r Refused x
 
 -- the one constraint that n records leave: what the last of them finishes. Where just one stays, it is that (`RecordLaws.only-left`).
 abbrev pub left : List ℕ → List ℕ → ℕ → Constraint

@@ -1,6 +1,6 @@
 -- Laws of files that are laid out, and of files and records that are accepted: what a function that takes one cites. Assumes nothing.
-use Prim.Native.Nat.{ℕ, zero, suc, _+_, _*_, _-_, _/_, _%_, _≤_, _<_}
-use mathlib.Core.Path.{_≡_, sym, ap, _∙_}
+use Prim.Native.Nat.{ℕ, _+_, _*_, _-_, _/_, _%_, _≤_, _<_}
+use mathlib.Core.Path.{_≡_, sym, _∙_}
 use mathlib.Core.Bool.{true, _&&_}
 use mathlib.Core.List.{List, []}
 use native.Mathlib.Omega.{arith}
@@ -12,7 +12,7 @@ use Rattle.number.specs.Sound.{sound}
 use Rattle.number.specs.Notation.{if_then_else_}
 use Rattle.record.specs.Bytes.{u32At}
 use Rattle.record.specs.Refusal.{_unless_, first}
-use Rattle.record.specs.RefusalLaws.{both, none-both, none-unless, none-of-each}
+use Rattle.record.specs.RefusalLaws.{is-refused, both, none-both, none-unless, none-of-each}
 use Rattle.tree.specs.Nodes.{nodesRefusal, nodesFit, listRefusal, Valid}
 use Rattle.tree.specs.NodeLaws.{list-valid}
 use Rattle.constraint.specs.Records.{recordsRefusal}
@@ -86,8 +86,7 @@ given-fit nodes h = rw (le-leb (length nodes / 16) 1024 h, le-leb (16 * (length 
 
 -- ---- what is refused with r
 pub read-refused : (r n : ℕ) (x : Read) → r ≡ n → (r ≡ 0 → ⊥) → readBy n x ≡ Refused r
-read-refused r zero x e h = absurd (h e)
-read-refused r (suc n) x e h = ap Refused (sym e)
+read-refused r n x e h = sym (is-refused Refused x e h)
 
 pub file-refused : (file : List ℕ) (r : ℕ) → r ≡ refusal file → (r ≡ 0 → ⊥) → readFile file ≡ Refused r
 unfolding readFile

@@ -8,8 +8,8 @@ use lib.Dec.{leb, eqb, ltb}
 use lib.Ieee.{Float}
 use lib.ListN.{length}
 use Rattle.settings.specs.declared.Settings.{Settings}
-use Rattle.record.specs.Refusal.{_or-else_, _unless_, refusedOr}
-use Rattle.record.specs.RefusalLaws.{none-both, none-unless, or-else-refused, refused-or}
+use Rattle.record.specs.Refusal.{_or-else_, _unless_}
+use Rattle.record.specs.RefusalLaws.{none-both, none-unless, or-else-refused, is-answered}
 use Rattle.tree.specs.Nodes.{listRefusal, treeAt, Valid}
 use Rattle.tree.specs.NodeLaws.{list-valid, prefix}
 use Rattle.tree.specs.Code.{Within}
@@ -22,14 +22,6 @@ use Rattle.point.specs.declared.eval.Evaluated.{Evaluated}
 use Rattle.point.specs.Eval.{evalReal}
 use Rattle.point.specs.Room.{Room}
 use Rattle.point.specs.Answer.{evalRefusal, evalAnswered, evalAnswer, pointRefusal}
-
--- ---- a call that is refused with r, or else answers
-module _ {A : Type 0} (refuse : ℕ → A) (answer : A) {r s : ℕ} (e : r ≡ s) where
-  pub refused : (r ≡ 0 → ⊥) → refuse r ≡ refusedOr s refuse answer
-  refused h = sym (refused-or r refuse answer h) ∙ ap (λ (n : ℕ). refusedOr n refuse answer) e
-
-  pub answered : r ≡ 0 → {x : A} → x ≡ answer → x ≡ refusedOr s refuse answer
-  answered z f = f ∙ ap (λ (n : ℕ). refusedOr n refuse answer) (sym z ∙ e)
 
 -- ---- eval_real
 
@@ -73,7 +65,7 @@ module _ (nodes : List ℕ) (k : ℕ) (p : List Float) where
     -- with settings s that are σ
     pub eval-answered : (σ s : Settings) → s ≡ σ → (x : Evaluated) → x ≡ evalReal s p (treeAt nodes k) → evalAnswered x ≡ evalAnswer σ nodes k p
     unfolding evalAnswer
-    eval-answered σ s u x w = answered EvalAnswer.Refused _ e z (ap evalAnswered (w ∙ ap (λ (s : Settings). evalReal s p (treeAt nodes k)) u))
+    eval-answered σ s u x w = is-answered EvalAnswer.Refused _ e z (ap evalAnswered (w ∙ ap (λ (s : Settings). evalReal s p (treeAt nodes k)) u))
 
 -- ---- records and a point
 module _ (nodes b : List ℕ) (p : List Float) where

@@ -45,7 +45,7 @@ fn samples(lo: f64, hi: f64) -> [f64; 3]
     [lo, (lo + hi) / 2.0, hi]
 }
 
-// Which constraint a record quantifies: for any sample of variable v in lo..hi, or for all.
+// A quantifier over variable v from lo to hi: any of its samples is to pass, or all.
 pub struct Quantifier {
     any: bool,
     v: usize,
@@ -53,8 +53,8 @@ pub struct Quantifier {
     hi: f64,
 }
 
-// What a record asks of a point: an atom of a node's value; the contrary of the constraint before; any or all of the last m; any or all of
-// a quantifier's samples.
+// What a record asks of a point: an atom's relation of its node's value; that the constraint before fails; any or all of the last m; any or
+// all of a quantifier's samples.
 pub enum Shape {
     Atom(Relation, usize),
     Not,

@@ -125,7 +125,7 @@ fn given_tested(
     t
 }
 
-// The trees are of at most that size, as in eval_sized.
+// The check, and the residual, where no tree is above that size.
 fn check_sized(
     nodes: &[u8],
     constraints: &[u8],

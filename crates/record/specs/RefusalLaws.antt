@@ -39,6 +39,14 @@ pub refused-or : {A : Type 0} (r : ℕ) (refused : ℕ → A) (answer : A) → (
 refused-or zero refused answer h = absurd (h refl)
 refused-or (suc r) refused answer h = refl
 
+-- what a call yields whose test says r where its definition says s
+module _ {A : Type 0} (refused : ℕ → A) (answer : A) {r s : ℕ} (e : r ≡ s) where
+  pub is-refused : (r ≡ 0 → ⊥) → refused r ≡ refusedOr s refused answer
+  is-refused h = sym (refused-or r refused answer h) ∙ ap (λ (n : ℕ). refusedOr n refused answer) e
+
+  pub is-answered : r ≡ 0 → {x : A} → x ≡ answer → x ≡ refusedOr s refused answer
+  is-answered z f = f ∙ ap (λ (n : ℕ). refusedOr n refused answer) (sym z ∙ e)
+
 -- what no refusal yields was answered
 pub not-refused : {A : Type 0} (r : ℕ) (refused : ℕ → A) (answer : A) {x : A} → ((n : ℕ) → refused n ≡ x → ⊥) → refusedOr r refused answer ≡ x → (r ≡ 0) × (answer ≡ x)
 not-refused zero refused answer h e = (refl, e)

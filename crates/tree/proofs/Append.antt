@@ -9,7 +9,7 @@ use lib.Dec.{ltb}
 use lib.ListN.{length, getD}
 use lib.Seq.{sets}
 use Rattle.record.specs.Refusal.{_or-else_, _unless_, passing, filled}
-use Rattle.record.specs.RefusalLaws.{both, none-both, none-unless, or-else-refused, refused-or, passing-all, filled-at}
+use Rattle.record.specs.RefusalLaws.{both, none-both, none-unless, or-else-refused, is-refused, is-answered, passing-all, filled-at}
 use Rattle.tree.specs.Tree.{Tree, size, depth, isSmall}
 use Rattle.tree.specs.Nodes.{treeAt, nodeRefusal, nodesRefusal, nodesFit, listRefusal, Valid}
 use Rattle.tree.specs.NodeLaws.{list-valid, size-small, depth-small}
@@ -141,7 +141,7 @@ module _ (b : List ℕ) (n x y : ℕ) where
 
 -- ---- the outcome
 pub append-refused : (r s : ℕ) (b : List ℕ) (n : ℕ) (xs : List Node) (last : ℕ) → r ≡ s → (r ≡ 0 → ⊥) → (Appended.Refused r leaving b) ≡ append s b n xs last
-append-refused r s b n xs last e h = sym (refused-or r _ _ h) ∙ ap (λ (k : ℕ). append k b n xs last) e
+append-refused r s b n xs last e h = is-refused (λ (k : ℕ). Appended.Refused k leaving b) _ e h
 
 pub append-done : (s : ℕ) (b b′ : List ℕ) (n : ℕ) (xs : List Node) (last : ℕ) → s ≡ 0 → b′ ≡ sets b (16 * n) (nodesBytes xs) → (Appended.At last leaving b′) ≡ append s b n xs last
-append-done s b b′ n xs last z e = ap (λ (l : List ℕ). Appended.At last leaving l) e ∙ sym (ap (λ (k : ℕ). append k b n xs last) z)
+append-done s b b′ n xs last z e = is-answered (λ (k : ℕ). Appended.Refused k leaving b) _ refl z (ap (λ (l : List ℕ). Appended.At last leaving l) e)

@@ -9,6 +9,8 @@ use Rattle.tree.specs.Encoding
 use Rattle.tree.specs.Canonical
 
 unfoldable pub computing : Unit {0}
-unfolding Notation.if_then_else_ Ieee.ofBits Ieee.toBits Bytes.u32At Bytes.u64At Bytes.f64At Bytes.u32Bytes Bytes.u64Bytes Refusal.first Tree.size Tree.depth Tree.isSmall Tree.treeVars
-    Nodes.nodeAt Nodes.isNode Nodes.treeOf Nodes.trees Nodes.treeAt Nodes.nodeRefusal Nodes.nodesRefusal Nodes.nodesFit Nodes.listRefusal Encoding.nodeBytes Encoding.nodesBytes Canonical.appendRefusal Canonical.lnRefusal Canonical.subRefusal Canonical.ln Canonical.sub
+unfolding Notation.if_then_else_ Ieee.ofBits Ieee.toBits Bytes.u32At Bytes.u64At Bytes.f64At Bytes.u32Bytes Bytes.u64Bytes Refusal.first
+    Tree.size Tree.depth Tree.isSmall Tree.treeVars Nodes.nodeAt Nodes.isNode Nodes.treeOf Nodes.trees Nodes.treeAt Nodes.nodeRefusal
+    Nodes.nodesRefusal Nodes.nodesFit Nodes.listRefusal Encoding.nodeBytes Encoding.nodesBytes Canonical.appendRefusal Canonical.lnRefusal
+    Canonical.subRefusal Canonical.ln Canonical.sub
 computing = tt

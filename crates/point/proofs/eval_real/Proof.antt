@@ -3,14 +3,15 @@ use Rattle.point.proofs.eval_real.Statement.{statement}
 use Rattle.point.proofs.eval_real.Tie as tie
 use mathlib.Core.Path.{sym, _∙_}
 use borrow.Author.Needs.{needs}
+use Rattle.record.specs.RefusalLaws.{is-refused}
 use Rattle.point.specs.declared.EvalAnswer.{EvalAnswer}
 use Rattle.point.specs.Answer.{evalAnswer}
 use Rattle.point.specs.declared.eval.Evaluated.{Evaluated}
-use Rattle.point.proofs.Answers.{refused, eval-valid, eval-answered}
+use Rattle.point.proofs.Answers.{eval-valid, eval-answered}
 
 returns : tie.Need-returns
 unfolding evalAnswer
-returns c = refused EvalAnswer.Refused _ (c .before .before .eval-tested .ensures .0) (c .if1 .taken)
+returns c = is-refused EvalAnswer.Refused _ (c .before .before .eval-tested .ensures .0) (c .if1 .taken)
 
 eval-sized-requires : tie.Need-eval-sized-requires
 eval-sized-requires c κs =

@@ -1,16 +1,17 @@
 -- `point::residual` meets its contract. Assumes nothing.
 use mathlib.Core.Path.{refl, sym, ap, _∙_}
 use borrow.Author.Needs.{needs}
+use Rattle.record.specs.RefusalLaws.{is-refused, is-answered}
 use Rattle.file.specs.FileLaws.{some-given}
 use Rattle.point.specs.declared.ResidualAnswer.{ResidualAnswer}
 use Rattle.point.specs.Answer.{residualAnswer}
-use Rattle.point.proofs.Answers.{refused, answered, accepted, last-ready}
+use Rattle.point.proofs.Answers.{accepted, last-ready}
 use Rattle.point.proofs.residual.Statement.{statement}
 use Rattle.point.proofs.residual.Tie as tie
 
 returns : tie.Need-returns
 unfolding residualAnswer
-returns c = refused ResidualAnswer.Refused _ (c .before .before .given-tested .ensures .0) (c .if1 .taken)
+returns c = is-refused ResidualAnswer.Refused _ (c .before .before .given-tested .ensures .0) (c .if1 .taken)
 
 sub-last : tie.Need-sub-last
 sub-last c = some-given _ _ (accepted _ _ _ (sym (c .before .before .given-tested .ensures .0) ∙ c .if1 .left) .0)
@@ -27,7 +28,7 @@ unfolding residualAnswer
 returns-2 c =
     let u = c .before .before in
     let i = u .before in
-    answered ResidualAnswer.Refused _ (i .before .before .given-tested .ensures .0) (i .if1 .left) (rw (sym (u .usual .ensures)) (ap ResidualAnswer.Residual (c .residual-sized .ensures)))
+    is-answered ResidualAnswer.Refused _ (i .before .before .given-tested .ensures .0) (i .if1 .left) (rw (sym (u .usual .ensures)) (ap ResidualAnswer.Residual (c .residual-sized .ensures)))
 
 pub residual-spec : {M : Type 1} → statement M
 residual-spec =
