@@ -31,13 +31,10 @@ module _ (inner point : List Float) where
       let q : length point ≡ i = omega arith in
       ap (λ (n : ℕ). take n inner) q ∙ e ∙ take-all i point (omega arith)
 
-  pub placed : (v : ℕ) (x : Float) → v < length point → take (length point) inner ≡ point → take (length point) (set inner v x) ≡ set point v x
-  placed v x h e = take-set-lt (length point) inner v x h ∙ ap (λ (l : List Float). set l v x) e
-
--- the copy's first places are the point, as long as it is
-module _ (inner point : List Float) (v : ℕ) (x : Float) (e : take (length point) inner ≡ set point v x) where
+-- the first places of a copy with one variable placed are as many as the point has
+module _ (inner copy point : List Float) (v : ℕ) (x : Float) (copied : take (length point) copy ≡ point) (placed : take (length point) inner ≡ set (take (length point) copy) v x) where
   pub sample-length : length point ≡ length (take (length point) inner)
-  sample-length = sym (ap length e ∙ length-set point v x)
+  sample-length = sym (ap length (placed ∙ ap (λ (l : List Float). set l v x) copied) ∙ length-set point v x)
 
   pub sample-there : length point ≤ length inner
   sample-there = omega (arith, sample-length, length-take (length point) inner)

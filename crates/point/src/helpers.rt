@@ -21,18 +21,27 @@ ghost use Rattle.point.specs.Residual.{shortfall as shortfallOf, errorVa
 ghost use Rattle.point.specs.Code.{shapeOf, joined, quantified, samplesOf, residualOfNone, oneMore, sampleMore};
 ghost use Rattle.record.specs.Views.{old};
 
-// The point with variable v at x, in the first places.
-fn sampled(v: usize, x: f64, point: &[f64]) -> [f64; 16]
+// The point in the first places. It is copied once for all of a quantifier's samples.
+fn copied(point: &[f64]) -> [f64; 16]
     requires { ⌜ length (now point) ≤ 16 ⌝ }
-    ensures { λ r. ⌜ take (length (old point)) r ≡ set (old point) v x ⌝ }
+    ensures { λ r. ⌜ take (length (old point)) r ≡ old point ⌝ }
 {
-    let mut inner = [0.0; 16];
+    let mut copy = [0.0; 16];
     let mut i = 0;
     while i < point.len() {
-        inner[i] = point[i];
+        copy[i] = point[i];
         i += 1;
     }
-    if v < point.len() {
+    copy
+}
+
+// The first n values of a copy, with variable v at x.
+fn sampled(v: usize, x: f64, n: usize, copy: [f64; 16]) -> [f64; 16]
+    requires { ⌜ n ≤ 16 ⌝ }
+    ensures { λ r. ⌜ take n r ≡ set (take n copy) v x ⌝ }
+{
+    let mut inner = copy;
+    if v < n {
         inner[v] = x;
     }
     inner
@@ -208,9 +217,10 @@ fn check_samples(
 {
     let samples = samples(q.lo, q.hi);
     let n = point.len();
+    let copy = copied(point);
     let mut i = 0;
     while i < 3 {
-        let inner = sampled(q.v, samples[i], point);
+        let inner = sampled(q.v, samples[i], n, copy);
         if check_constraint(nodes, constraints, starts, k, settings, &inner[..n], order) == q.any {
             return q.any;
         }
@@ -402,10 +412,11 @@ fn residual_samples(
 {
     let samples = samples(q.lo, q.hi);
     let n = point.len();
+    let copy = copied(point);
     let mut value = residual_of_none(q.any);
     let mut i = 0;
     while i < 3 {
-        let inner = sampled(q.v, samples[i], point);
+        let inner = sampled(q.v, samples[i], n, copy);
         let r = evaluate_constraint_residual(
             nodes,
             constraints,

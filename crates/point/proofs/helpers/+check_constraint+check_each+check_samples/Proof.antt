@@ -21,6 +21,7 @@ use Rattle.point.proofs.Shapes.{Says, says}
 use Rattle.point.proofs.Sampling.{sample-length, sample-there, sample-room}
 use Rattle.point.proofs.helpers.shape_in.Reads as shape-in
 use Rattle.point.proofs.helpers.check_atom.Reads as check-atom
+use Rattle.point.proofs.helpers.copied.Reads as copied
 use Rattle.point.proofs.helpers.sampled.Reads as sampled
 use Rattle.point.proofs.helpers.samples.Reads as samples-of
 use Rattle.point.proofs.helpers.check_constraint.Reads as constraint
@@ -45,14 +46,14 @@ abbrev μ-samples : Measures 5 samples-kinds.ps ℕ
 μ-samples κs a = 2 * a .1 .1 .1 .0 + 2
 
 abbrev Inv-loop : samples-lts.InvT-loop
-Inv-loop nodes constraints starts k settings q point order₀ samples n i₀ order i =
+Inv-loop nodes constraints starts k settings q point order₀ samples n copy i₀ order i =
     let c = constraintAt nodes constraints k in
     (i ≤ 3)
     × (length order ≡ length order₀)
     × (left (q .any) (λ x. check settings (set point (q .v) x) c) (drop i samples) ≡ check settings point (quantified (q .any) (q .v) (q .lo) (q .hi) c))
 
 abbrev μ-loop : samples-lts.MeasureT-loop
-μ-loop nodes constraints starts k settings q point order₀ samples n i₀ order i = 3 - i
+μ-loop nodes constraints starts k settings q point order₀ samples n copy i₀ order i = 3 - i
 
 module _ (t : ℕ) where
   abbrev constraint-at : In 5 constraint-kinds.ps
@@ -88,7 +89,7 @@ module _ (t : ℕ) where
   each-calls = (each-below, each.Post, constraint-below, constraint.Post)
 
   abbrev samples-calls : samples-lts.Claims
-  samples-calls = (samples-of.Asked, samples-of.Learnt, sampled.Asked, sampled.Learnt, constraint-below, constraint.Post)
+  samples-calls = (samples-of.Asked, samples-of.Learnt, copied.Asked, copied.Learnt, sampled.Asked, sampled.Learnt, constraint-below, constraint.Post)
 
   -- ---- check_constraint, by what the record says
   abbrev Read : Type 0
@@ -201,33 +202,36 @@ module _ (t : ℕ) where
       each-goes-on _ _ (s .args .any) _ _ _ _ _ (s .pre .1 .0) (i .if1 .left) _ refl _ (b .check-each .ensures) (g .if2 .left) _ (f .check-constraint .ensures)
 
   -- ---- check_samples
+  samples-copied-requires : samples-lts.Need-copied-requires samples-calls samples-at samples.Post Inv-loop μ-loop
+  samples-copied-requires c κs = c .before .before .before .before .before .pre .1 .1 .few
+
   samples-loop-holds : samples-lts.Need-loop-holds samples-calls samples-at samples.Post Inv-loop μ-loop
   samples-loop-holds c =
-      let a = c .before .before .before .before .before .args in
-      (omega arith, refl, ap (left (a .q .any) _) (c .samples .ensures) ∙ all-left _ _ (a .q .v) (a .q .lo) (a .q .hi) _ (a .q .any))
+      let a = c .before .before .before .before .before .before .args in
+      (omega arith, refl, ap (left (a .q .any) _) (c .before .samples .ensures) ∙ all-left _ _ (a .q .v) (a .q .lo) (a .q .hi) _ (a .q .any))
 
   samples-array-read-sampled : samples-lts.Need-array-read-sampled samples-calls samples-at samples.Post Inv-loop μ-loop
-  samples-array-read-sampled c = omega (arith, ap length (c .before .before .samples .ensures))
+  samples-array-read-sampled c = omega (arith, ap length (c .before .before .before .samples .ensures))
 
   samples-sampled-requires : samples-lts.Need-sampled-requires samples-calls samples-at samples.Post Inv-loop μ-loop
-  samples-sampled-requires c κs = c .before .before .before .before .before .before .before .pre .1 .1 .few
+  samples-sampled-requires c κs = c .before .before .before .before .before .before .before .before .pre .1 .1 .few
 
   samples-array-share-prefix-inner : samples-lts.Need-array-share-prefix-inner samples-calls samples-at samples.Post Inv-loop μ-loop
   samples-array-share-prefix-inner c =
-      let a = c .before .before .before .before .before .before .before .before .args in
-      sample-there (c .sampled .result) (now (a .point)) (a .q .v) _ (c .sampled .ensures)
+      let a = c .before .before .before .before .before .before .before .before .before .args in
+      sample-there (c .sampled .result) _ (now (a .point)) (a .q .v) _ (c .before .before .before .copied .ensures) (c .sampled .ensures)
 
   samples-slice-aggregate-check-constraint : samples-lts.Need-slice-aggregate-check-constraint samples-calls samples-at samples.Post Inv-loop μ-loop
   samples-slice-aggregate-check-constraint c =
-      let a = c .before .before .before .before .before .before .before .before .before .args in
-      sample-length (c .before .sampled .result) (now (a .point)) (a .q .v) _ (c .before .sampled .ensures)
+      let a = c .before .before .before .before .before .before .before .before .before .before .args in
+      sample-length (c .before .sampled .result) _ (now (a .point)) (a .q .v) _ (c .before .before .before .before .copied .ensures) (c .before .sampled .ensures)
 
   samples-check-constraint-requires : samples-lts.Need-check-constraint-requires samples-calls samples-at samples.Post Inv-loop μ-loop
   samples-check-constraint-requires c κs =
       let f = c .before .before in
       let l = f .before .before in
-      let s = l .before .before .before .before .before .before in
-      (omega arith, (s .pre .1 .0, sample-room _ _ (s .args .q .v) _ (f .sampled .ensures) (s .pre .1 .1) (l .loop .inv .1)))
+      let s = l .before .before .before .before .before .before .before in
+      (omega arith, (s .pre .1 .0, sample-room _ _ _ (s .args .q .v) _ (l .before .copied .ensures) (f .sampled .ensures) (s .pre .1 .1) (l .loop .inv .1)))
 
   samples-same-length : samples-lts.Need-same-length samples-calls samples-at samples.Post Inv-loop μ-loop
   samples-same-length c =
@@ -239,18 +243,18 @@ module _ (t : ℕ) where
       let f = c .before .before .before .before in
       let g = f .before .before .before in
       let l = g .before .before in
-      let a = l .before .before .before .before .before .before .args in
-      sample-settled _ _ (a .q .v) (a .q .lo) (a .q .hi) _ (a .q .any) (l .before .samples .ensures) _ (l .loop .inv .2) (g .before .loop-test .taken) (f .check-constraint .result) (rw (sym (g .sampled .ensures)) (f .check-constraint .ensures)) (c .if1 .taken)
+      let a = l .before .before .before .before .before .before .before .args in
+      sample-settled _ _ (a .q .v) (a .q .lo) (a .q .hi) _ (a .q .any) (l .before .before .samples .ensures) _ (l .loop .inv .2) (g .before .loop-test .taken) (f .check-constraint .result) (rw (g .sampled .ensures, l .before .copied .ensures) at (f .check-constraint .ensures)) (c .if1 .taken)
 
   samples-loop-again : samples-lts.Need-loop-again samples-calls samples-at samples.Post Inv-loop μ-loop
   samples-loop-again c =
       let f = c .before .before .before .before in
       let g = f .before .before .before in
       let l = g .before .before in
-      let a = l .before .before .before .before .before .before .args in (
+      let a = l .before .before .before .before .before .before .before .args in (
         omega arith,
         f .check-constraint .kept .1 .1 .1 .1 .1 .1 .0 ∙ l .loop .inv .1,
-        sample-goes-on _ _ (a .q .v) (a .q .lo) (a .q .hi) _ (a .q .any) (l .before .samples .ensures) _ (l .loop .inv .2) (g .before .loop-test .taken) (f .check-constraint .result) (rw (sym (g .sampled .ensures)) (f .check-constraint .ensures)) (c .if1 .left),
+        sample-goes-on _ _ (a .q .v) (a .q .lo) (a .q .hi) _ (a .q .any) (l .before .before .samples .ensures) _ (l .loop .inv .2) (g .before .loop-test .taken) (f .check-constraint .result) (rw (g .sampled .ensures, l .before .copied .ensures) at (f .check-constraint .ensures)) (c .if1 .left),
       )
 
   samples-same-length-2 : samples-lts.Need-same-length-2 samples-calls samples-at samples.Post Inv-loop μ-loop
@@ -259,8 +263,8 @@ module _ (t : ℕ) where
   samples-returns-2 : samples-lts.Need-returns-2 samples-calls samples-at samples.Post Inv-loop μ-loop
   samples-returns-2 c =
       let l = c .before .before in
-      let a = l .before .before .before .before .before .before .args in
-      none-left _ _ (a .q .v) (a .q .lo) (a .q .hi) _ (a .q .any) (l .before .samples .ensures) _ (l .loop .inv .2) (c .before .loop-test .left)
+      let a = l .before .before .before .before .before .before .before .args in
+      none-left _ _ (a .q .v) (a .q .lo) (a .q .hi) _ (a .q .any) (l .before .before .samples .ensures) _ (l .loop .inv .2) (c .before .loop-test .left)
 
 pub +check-constraint+check-each+check-samples-spec : {M : Type 1} → statement M
 +check-constraint+check-each+check-samples-spec =
@@ -304,6 +308,7 @@ pub +check-constraint+check-each+check-samples-spec : {M : Type 1} → statement
     Inv-loop
     μ-loop
     (λ c κs. search needs)
+    (samples-copied-requires t)
     (samples-loop-holds t)
     (λ c. search needs)
     (samples-array-read-sampled t)

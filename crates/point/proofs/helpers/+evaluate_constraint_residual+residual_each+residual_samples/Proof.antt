@@ -24,6 +24,7 @@ use Rattle.point.proofs.helpers.residual_of_not.Reads as residual-of-no
 use Rattle.point.proofs.helpers.residual_of_none.Reads as residual-of-none
 use Rattle.point.proofs.helpers.one_more.Reads as one-more
 use Rattle.point.proofs.helpers.sample_more.Reads as sample-more
+use Rattle.point.proofs.helpers.copied.Reads as copied
 use Rattle.point.proofs.helpers.sampled.Reads as sampled
 use Rattle.point.proofs.helpers.samples.Reads as samples-of
 use Rattle.point.proofs.helpers.evaluate_constraint_residual.Reads as constraint
@@ -48,14 +49,14 @@ abbrev μ-samples : Measures 5 samples-kinds.ps ℕ
 μ-samples κs a = 2 * a .1 .1 .1 .0 + 2
 
 abbrev Inv-loop : samples-lts.InvT-loop
-Inv-loop nodes constraints starts k settings q point order₀ samples n value₀ i₀ order value i =
+Inv-loop nodes constraints starts k settings q point order₀ samples n copy value₀ i₀ order value i =
     let c = constraintAt nodes constraints k in
     (i ≤ 3)
     × (length order ≡ length order₀)
     × (after (sampleMore (q .any)) (λ x. residual settings (set point (q .v) x) c) value (drop i samples) ≡ residual settings point (quantified (q .any) (q .v) (q .lo) (q .hi) c))
 
 abbrev μ-loop : samples-lts.MeasureT-loop
-μ-loop nodes constraints starts k settings q point order₀ samples n value₀ i₀ order value i = 3 - i
+μ-loop nodes constraints starts k settings q point order₀ samples n copy value₀ i₀ order value i = 3 - i
 
 module _ (t : ℕ) where
   abbrev constraint-at : In 5 constraint-kinds.ps
@@ -96,6 +97,8 @@ module _ (t : ℕ) where
   samples-calls = (
     samples-of.Asked,
     samples-of.Learnt,
+    copied.Asked,
+    copied.Learnt,
     residual-of-none.Asked,
     residual-of-none.Learnt,
     sampled.Asked,
@@ -212,45 +215,48 @@ module _ (t : ℕ) where
       c .one-more .ensures ∙ each-of-more _ _ (s .args .any) _ _ _ _ _ (s .pre .1 .0) (i .if1 .left) _ refl _ _ (b .residual-each .ensures) (f .evaluate-constraint-residual .ensures)
 
   -- ---- residual_samples
+  samples-copied-requires : samples-lts.Need-copied-requires samples-calls samples-at samples.Post Inv-loop μ-loop
+  samples-copied-requires c κs = c .before .before .before .before .before .pre .1 .1 .few
+
   samples-loop-holds : samples-lts.Need-loop-holds samples-calls samples-at samples.Post Inv-loop μ-loop
   samples-loop-holds c =
-      let p = c .before in
+      let p = c .before .before in
       let a = p .before .before .before .before .before .args in
       (omega arith, refl, ap₂ (after (sampleMore (a .q .any)) _) (c .residual-of-none .ensures) (p .samples .ensures) ∙ all-left _ _ (a .q .v) (a .q .lo) (a .q .hi) _ (a .q .any))
 
   samples-array-read-sampled : samples-lts.Need-array-read-sampled samples-calls samples-at samples.Post Inv-loop μ-loop
-  samples-array-read-sampled c = omega (arith, ap length (c .before .before .before .samples .ensures))
+  samples-array-read-sampled c = omega (arith, ap length (c .before .before .before .before .samples .ensures))
 
   samples-sampled-requires : samples-lts.Need-sampled-requires samples-calls samples-at samples.Post Inv-loop μ-loop
-  samples-sampled-requires c κs = c .before .before .before .before .before .before .before .before .pre .1 .1 .few
+  samples-sampled-requires c κs = c .before .before .before .before .before .before .before .before .before .pre .1 .1 .few
 
   samples-array-share-prefix-inner : samples-lts.Need-array-share-prefix-inner samples-calls samples-at samples.Post Inv-loop μ-loop
   samples-array-share-prefix-inner c =
-      let a = c .before .before .before .before .before .before .before .before .before .args in
-      sample-there (c .sampled .result) (now (a .point)) (a .q .v) _ (c .sampled .ensures)
+      let a = c .before .before .before .before .before .before .before .before .before .before .args in
+      sample-there (c .sampled .result) _ (now (a .point)) (a .q .v) _ (c .before .before .before .before .copied .ensures) (c .sampled .ensures)
 
   samples-slice-aggregate-evaluate-constraint-residual : samples-lts.Need-slice-aggregate-evaluate-constraint-residual samples-calls samples-at samples.Post Inv-loop μ-loop
   samples-slice-aggregate-evaluate-constraint-residual c =
-      let a = c .before .before .before .before .before .before .before .before .before .before .args in
-      sample-length (c .before .sampled .result) (now (a .point)) (a .q .v) _ (c .before .sampled .ensures)
+      let a = c .before .before .before .before .before .before .before .before .before .before .before .args in
+      sample-length (c .before .sampled .result) _ (now (a .point)) (a .q .v) _ (c .before .before .before .before .before .copied .ensures) (c .before .sampled .ensures)
 
   samples-evaluate-constraint-residual-requires : samples-lts.Need-evaluate-constraint-residual-requires samples-calls samples-at samples.Post Inv-loop μ-loop
   samples-evaluate-constraint-residual-requires c κs =
       let f = c .before .before in
       let l = f .before .before in
-      let s = l .before .before .before .before .before .before .before in
-      (omega arith, (s .pre .1 .0, sample-room _ _ (s .args .q .v) _ (f .sampled .ensures) (s .pre .1 .1) (l .loop .inv .1)))
+      let s = l .before .before .before .before .before .before .before .before in
+      (omega arith, (s .pre .1 .0, sample-room _ _ _ (s .args .q .v) _ (l .before .before .copied .ensures) (f .sampled .ensures) (s .pre .1 .1) (l .loop .inv .1)))
 
   samples-loop-again : samples-lts.Need-loop-again samples-calls samples-at samples.Post Inv-loop μ-loop
   samples-loop-again c =
       let f = c .before .before .before in
       let g = f .before .before .before in
       let l = g .before .before in
-      let p = l .before .before in
+      let p = l .before .before .before in
       let a = p .before .before .before .before .before .args in (
         omega arith,
         f .evaluate-constraint-residual .kept .1 .1 .1 .1 .1 .1 .0 ∙ l .loop .inv .1,
-        one-left _ _ (a .q .v) (a .q .lo) (a .q .hi) _ (a .q .any) (p .samples .ensures) _ _ (l .loop .inv .2) (g .before .loop-test .taken) (f .evaluate-constraint-residual .result) _ (rw (sym (g .sampled .ensures)) (f .evaluate-constraint-residual .ensures)) (c .sample-more .ensures),
+        one-left _ _ (a .q .v) (a .q .lo) (a .q .hi) _ (a .q .any) (p .samples .ensures) _ _ (l .loop .inv .2) (g .before .loop-test .taken) (f .evaluate-constraint-residual .result) _ (rw (g .sampled .ensures, l .before .before .copied .ensures) at (f .evaluate-constraint-residual .ensures)) (c .sample-more .ensures),
       )
 
   samples-same-length : samples-lts.Need-same-length samples-calls samples-at samples.Post Inv-loop μ-loop
@@ -258,7 +264,7 @@ module _ (t : ℕ) where
 
   samples-returns : samples-lts.Need-returns samples-calls samples-at samples.Post Inv-loop μ-loop
   samples-returns c =
-      let p = c .before .before .before in
+      let p = c .before .before .before .before in
       let a = p .before .before .before .before .before .args in
       none-left _ _ (a .q .v) (a .q .lo) (a .q .hi) _ (a .q .any) (p .samples .ensures) _ _ (c .before .loop .inv .2) (c .loop-test .left)
 
@@ -305,6 +311,7 @@ pub +evaluate-constraint-residual+residual-each+residual-samples-spec : {M : Typ
     Inv-loop
     μ-loop
     (λ c κs. search needs)
+    (samples-copied-requires t)
     (λ c κs. search needs)
     (samples-loop-holds t)
     (λ c. search needs)
