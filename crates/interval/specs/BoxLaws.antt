@@ -7,7 +7,7 @@ use native.Mathlib.Omega.{arith}
 use lib.ListN.{length, getD, set, take}
 use lib.Seq.{length-take-le, take-set-lt, getD-take, take-at}
 use lib.Ieee.{Float, nan}
-use Rattle.interval.specs.Interval.{_‥_}
+use Rattle.interval.specs.Interval.{_‥_, midpoint}
 use Rattle.interval.specs.Boxes.{intervals, boxesOf, missing, starting, midpoints, padded}
 use Rattle.interval.specs.declared.Boxes.{Boxes}
 use Rattle.interval.specs.declared.Interval.{Interval}
@@ -85,11 +85,21 @@ pub boxes-length : (b : Boxes) → length (b .lo) ≡ 16 → length (b .hi) ≡ 
 unfolding boxesOf
 boxes-length b p q h = first-length (b .count) (b .lo) (b .hi) (omega arith) (q ∙ sym p)
 
+pub boxes-at : (b : Boxes) (j : ℕ) → length (b .lo) ≡ 16 → length (b .hi) ≡ 16 → b .count ≤ 16 → j < b .count → (getD (b .lo) j nan ‥ getD (b .hi) j nan) ≡ getD (boxesOf b) j missing
+unfolding boxesOf
+boxes-at b j p q h l = first-at (b .count) (b .lo) (b .hi) j missing (omega arith) (q ∙ sym p) l
+
 -- ---- the midpoints
 pub midpoints-length : (b : List Interval) → length (midpoints b) ≡ length b
 unfolding midpoints
 midpoints-length [] = refl
 midpoints-length (i ∷ is) = ap suc (midpoints-length is)
+
+pub midpoints-set : (b : List Interval) (w : ℕ) (v : Interval) → midpoints (set b w v) ≡ set (midpoints b) w (midpoint v)
+unfolding midpoints
+midpoints-set [] w v = refl
+midpoints-set (i ∷ is) zero v = refl
+midpoints-set (i ∷ is) (suc w) v = ap (λ (l : List Float). midpoint i ∷ l) (midpoints-set is w v)
 
 -- the values of a padded point
 pub padded-take : (m : List Float) (n : ℕ) → length m ≡ n → take n (padded m) ≡ m

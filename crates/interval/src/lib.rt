@@ -300,7 +300,7 @@ impl Boxes {
         let n = self.count;
         let mut i: usize = 0;
         while i < n {
-            point[i] = self.at(i).midpoint();
+            point[i] = Interval::new(self.lo[i], self.hi[i]).midpoint();
             i += 1;
         }
         point
@@ -314,7 +314,7 @@ impl Boxes {
         let n = self.count;
         let mut i: usize = 0;
         while i < n {
-            if self.at(i).width() < tolerance {
+            if Interval::new(self.lo[i], self.hi[i]).width() < tolerance {
                 i += 1;
             } else {
                 return false;
@@ -330,10 +330,10 @@ impl Boxes {
     {
         let n = self.count;
         let mut at: usize = 0;
-        let mut most = self.at(0).width();
+        let mut most = Interval::new(self.lo[0], self.hi[0]).width();
         let mut i: usize = 1;
         while i < n {
-            let w = self.at(i).width();
+            let w = Interval::new(self.lo[i], self.hi[i]).width();
             if w < most {
                 i += 1;
             } else {

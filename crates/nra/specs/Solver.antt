@@ -40,9 +40,13 @@ reached (failed tolerance r h) = false
 reached (failed limit r h) = true
 reached (failed unsatisfied r h) = false
 
--- how far the midpoint of the boxes is from meeting the constraint: the residual's magnitude
+-- how far a point is from meeting the constraint: the residual's magnitude
+abbrev pub distanceAt : Settings → Constraint → List Float → Float
+distanceAt σ c m = absOf (residual σ m c)
+
+-- and how far the midpoint of the boxes is
 unfoldable pub distance : Settings → Constraint → List Interval → Float
-distance σ c b = absOf (residual σ (midpoints b) c)
+distance σ c b = distanceAt σ c (midpoints b)
 
 -- ---- between two halvings: the boxes, whose midpoint did not pass the check, and the halvings so far
 pub record State : Type 0 where

@@ -100,7 +100,9 @@ pub fn answer_of(
     let h = run.halvings;
     match step {
         Step::Going => {
-            let r = distance(nodes, constraints, starts, task, boxes, order);
+            let n = boxes.count;
+            let point = boxes.midpoints();
+            let r = distance(nodes, constraints, starts, task, &point[..n], order);
             pointless(0, Stop::Limit, r, h)
         }
         Step::Passed(exact) => assigned(exact & (0 < limit), h, boxes),

@@ -1,14 +1,14 @@
 // One halving (document 01; nra.rs): the last widest box goes to one of its halves.
 use interval::Boxes;
-use point::helpers::check_constraint;
 use point::helpers::evaluate_constraint_residual;
 use settings::Settings;
 ghost use mathlib.Core.Path.{_≡_};
 ghost use Prim.Native.Nat.{_+_};
-ghost use Rattle.interval.specs.Boxes.{boxesOf, midpoints};
+ghost use Rattle.interval.specs.Boxes.{boxesOf};
 ghost use Rattle.constraint.specs.Starts.{Ready};
 ghost use Rattle.constraint.specs.Views.{the};
-ghost use Rattle.point.specs.Check.{check};
+ghost use Rattle.point.specs.Room.{Room};
+ghost use Rattle.record.specs.Views.{old};
 ghost use Rattle.nra.specs.Answers.{Working};
 ghost use Rattle.nra.specs.Solver as Solver;
 
@@ -19,48 +19,19 @@ pub struct Task {
     pub tolerance: f64,
 }
 
-// Whether the midpoint of the boxes passes the check.
-pub fn passes(
-    nodes: &[u8],
-    constraints: &[u8],
-    starts: &[usize; 256],
-    task: Task,
-    boxes: Boxes,
-    order: &mut [u16],
-) -> bool
-    requires { ⌜ Ready (now nodes) (now constraints) (task .root + 1) (now starts) ⌝ }
-    requires { ⌜ Working boxes (now order) ⌝ }
-    ensures { λ r. ⌜ r ≡ check (task .settings) (midpoints (boxesOf boxes)) (the nodes constraints (task .root)) ⌝ }
-{
-    let point = boxes.midpoints();
-    let n = boxes.count;
-    let settings = task.settings;
-    check_constraint(
-        nodes,
-        constraints,
-        starts,
-        task.root,
-        settings,
-        &point[..n],
-        order,
-    )
-}
-
-// How far it is from meeting the constraint: the residual's magnitude.
+// How far the point is from meeting the constraint: the residual's magnitude.
 pub fn distance(
     nodes: &[u8],
     constraints: &[u8],
     starts: &[usize; 256],
     task: Task,
-    boxes: Boxes,
+    point: &[f64],
     order: &mut [u16],
 ) -> f64
     requires { ⌜ Ready (now nodes) (now constraints) (task .root + 1) (now starts) ⌝ }
-    requires { ⌜ Working boxes (now order) ⌝ }
-    ensures { λ r. ⌜ r ≡ Solver.distance (task .settings) (the nodes constraints (task .root)) (boxesOf boxes) ⌝ }
+    requires { ⌜ Room (now nodes) (now point) (now order) ⌝ }
+    ensures { λ r. ⌜ r ≡ Solver.distanceAt (task .settings) (the nodes constraints (task .root)) (old point) ⌝ }
 {
-    let point = boxes.midpoints();
-    let n = boxes.count;
     let settings = task.settings;
     number::abs(evaluate_constraint_residual(
         nodes,
@@ -68,7 +39,7 @@ pub fn distance(
         starts,
         task.root,
         settings,
-        &point[..n],
+        point,
         order,
     ))
 }
@@ -88,12 +59,16 @@ pub fn halved(
 {
     let w = boxes.widest();
     let halves = boxes.at(w).split();
-    let lower = boxes.with_box(w, halves.lower);
-    let upper = boxes.with_box(w, halves.upper);
-    let low = distance(nodes, constraints, starts, task, lower, order);
-    let high = distance(nodes, constraints, starts, task, upper, order);
+    let lower = halves.lower;
+    let upper = halves.upper;
+    let n = boxes.count;
+    let mut point = boxes.midpoints();
+    point[w] = lower.midpoint();
+    let low = distance(nodes, constraints, starts, task, &point[..n], order);
+    point[w] = upper.midpoint();
+    let high = distance(nodes, constraints, starts, task, &point[..n], order);
     if low < high {
-        return lower;
+        return boxes.with_box(w, lower);
     }
-    upper
+    boxes.with_box(w, upper)
 }

@@ -2,9 +2,9 @@
 use super::halving::Task;
 use super::halving::distance;
 use super::halving::halved;
-use super::halving::passes;
 use interval::Boxes;
 use narrow::Mode;
+use point::helpers::check_constraint;
 ghost use mathlib.Core.Path.{_≡_};
 ghost use Prim.Native.Nat.{_+_, _-_, _<_, _≤_};
 ghost use Rattle.interval.specs.Boxes.{boxesOf};
@@ -60,7 +60,17 @@ pub fn begin(
             halvings,
         };
     }
-    if passes(nodes, constraints, starts, task, boxes, order) {
+    let n = boxes.count;
+    let point = boxes.midpoints();
+    if check_constraint(
+        nodes,
+        constraints,
+        starts,
+        task.root,
+        settings,
+        &point[..n],
+        order,
+    ) {
         return Run {
             step: Step::Passed(boxes.all_below(task.tolerance)),
             boxes,
@@ -107,7 +117,17 @@ fn settle(
             halvings,
         };
     }
-    if passes(nodes, constraints, starts, task, boxes, order) {
+    let n = boxes.count;
+    let point = boxes.midpoints();
+    if check_constraint(
+        nodes,
+        constraints,
+        starts,
+        task.root,
+        settings,
+        &point[..n],
+        order,
+    ) {
         return Run {
             step: Step::Passed(false),
             boxes,
@@ -116,7 +136,7 @@ fn settle(
     }
     if boxes.all_below(task.tolerance) {
         return Run {
-            step: Step::Tolerance(distance(nodes, constraints, starts, task, boxes, order)),
+            step: Step::Tolerance(distance(nodes, constraints, starts, task, &point[..n], order)),
             boxes,
             halvings,
         };

@@ -5,17 +5,16 @@ use borrow.Author.Needs.{needs}
 use lib.Ieee.{neg, ofInt, ofBits}
 use lib.ListN.{length, List·getD-eq-default}
 use Rattle.interval.specs.Boxes.{boxesOf, missing}
-use Rattle.interval.specs.BoxLaws.{first-at, boxes-length}
+use Rattle.interval.specs.BoxLaws.{boxes-at, boxes-length}
 use Rattle.interval.proofs.Boxes.at.Statement.{statement}
 use Rattle.interval.proofs.Boxes.at.Tie as tie
 
 returns : tie.Need-returns
-unfolding boxesOf
 returns c =
     let s = c .before .before .before .before in
     let l : length (s .args .t1 .lo) ≡ 16 = search needs in
     let h : length (s .args .t1 .hi) ≡ 16 = search needs in
-    c .new .ensures ∙ first-at _ _ _ _ missing (omega (arith, s .pre)) (h ∙ sym l) (c .before .before .before .if1 .taken)
+    c .new .ensures ∙ boxes-at (s .args .t1) _ l h (s .pre) (c .before .before .before .if1 .taken)
 
 returns-2 : tie.Need-returns-2
 unfolding missing neg ofInt ofBits
