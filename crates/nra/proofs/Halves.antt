@@ -1,6 +1,6 @@
 -- A halving, over plain values. Assumes nothing.
 use Prim.Native.Nat.{ℕ, _-_, _<_, _≤_}
-use mathlib.Core.Path.{_≡_, sym, ap, _∙_}
+use mathlib.Core.Path.{_≡_, refl, sym, ap, _∙_}
 use mathlib.Core.Bool.{Bool, true, false}
 use mathlib.Core.List.{List}
 use native.Mathlib.Omega.{arith}
@@ -66,14 +66,11 @@ module _ (b : List Interval) (n : ℕ) {point : List Float} (e : (point ≡ padd
 module _ (σ : Settings) (c : Constraint) (b : List Interval) {w : ℕ} {i : Interval} {halves : Halves} {low high : Float}
     (last : w ≡ widest b) (is : i ≡ getD b w missing) (parts : halves ≡ split i)
     (lows : low ≡ distance σ c (set b w (halves .lower))) (highs : high ≡ distance σ c (set b w (halves .upper))) where
-  by-test : {k : Bool} → (low ≺ high) ≡ k → (if k then set b w (halves .lower) else set b w (halves .upper)) ≡ halved σ c b
+  chosen : (k : Bool) (x y : Interval) → set b w (if k then x else y) ≡ (if k then set b w x else set b w y)
+  unfolding if_then_else_
+  chosen true x y = refl
+  chosen false x y = refl
+
+  pub halved-is : {kept : Interval} → kept ≡ (if low ≺ high then halves .lower else halves .upper) → set b w kept ≡ halved σ c b
   unfolding halved
-  by-test t = rw (← t, lows, highs, parts, is, last)
-
-  pub halved-lower : (low ≺ high) ≡ true → set b w (halves .lower) ≡ halved σ c b
-  unfolding if_then_else_
-  halved-lower t = by-test t
-
-  pub halved-upper : (low ≺ high) ≡ false → set b w (halves .upper) ≡ halved σ c b
-  unfolding if_then_else_
-  halved-upper t = by-test t
+  halved-is q = rw (q, chosen (low ≺ high) (halves .lower) (halves .upper), lows, highs, parts, is, last)

@@ -1,9 +1,12 @@
 // One halving (document 01; nra.rs): the last widest box goes to one of its halves.
 use interval::Boxes;
+use interval::Halves;
+use interval::Interval;
 use point::helpers::evaluate_constraint_residual;
 use settings::Settings;
 ghost use mathlib.Core.Path.{_≡_};
 ghost use Prim.Native.Nat.{_+_};
+ghost use Rattle.number.specs.Notation.{if_then_else_, _≺_};
 ghost use Rattle.interval.specs.Boxes.{boxesOf};
 ghost use Rattle.constraint.specs.Starts.{Ready};
 ghost use Rattle.constraint.specs.Views.{the};
@@ -44,6 +47,16 @@ pub fn distance(
     ))
 }
 
+// The lower half only if its distance is strictly smaller.
+fn better(low: f64, high: f64, halves: Halves) -> Interval
+    ensures { λ r. ⌜ r ≡ if low ≺ high then halves .lower else halves .upper ⌝ }
+{
+    if low < high {
+        return halves.lower;
+    }
+    halves.upper
+}
+
 // The last widest box is halved: its lower half stays only if the residual there is strictly smaller.
 pub fn halved(
     nodes: &[u8],
@@ -58,7 +71,7 @@ pub fn halved(
     ensures { λ r. ⌜ (r .count ≡ boxes .count) × (boxesOf r ≡ Solver.halved (task .settings) (the nodes constraints (task .root)) (boxesOf boxes)) ⌝ }
 {
     let w = boxes.widest();
-    let halves = boxes.at(w).split();
+    let halves = Interval::new(boxes.lo[w], boxes.hi[w]).split();
     let lower = halves.lower;
     let upper = halves.upper;
     let n = boxes.count;
@@ -67,8 +80,9 @@ pub fn halved(
     let low = distance(nodes, constraints, starts, task, &point[..n], order);
     point[w] = upper.midpoint();
     let high = distance(nodes, constraints, starts, task, &point[..n], order);
-    if low < high {
-        return boxes.with_box(w, lower);
-    }
-    boxes.with_box(w, upper)
+    let kept = better(low, high, halves);
+    let mut half = boxes;
+    half.lo[w] = kept.lo;
+    half.hi[w] = kept.hi;
+    half
 }

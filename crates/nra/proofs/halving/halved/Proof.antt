@@ -1,42 +1,53 @@
 -- `nra::halving::halved` meets its contract. Assumes nothing.
-use mathlib.Core.Path.{sym, _∙_}
+use mathlib.Core.Path.{_≡_, refl, sym, _∙_}
 use native.Mathlib.Omega.{arith}
+use lib.Ieee.{Float}
+use lib.ListN.{length}
+use Rattle.interval.specs.Boxes.{boxesOf}
+use Rattle.interval.specs.BoxLaws.{first-set, boxes-at}
 use Rattle.point.specs.Room.{full}
-use Rattle.nra.proofs.Halves.{moved-wide, again-wide, moved-length, again-length, moved-distance, again-distance, halved-lower, halved-upper}
-use borrow.Author.Needs.{needs}
+use Rattle.nra.proofs.Halves.{moved-wide, again-wide, moved-length, again-length, moved-distance, again-distance, halved-is}
+use borrow.Author.Needs.{needs, length-unmapped}
 use Rattle.nra.proofs.halving.halved.Statement.{statement}
 use Rattle.nra.proofs.halving.halved.Tie as tie
+
+-- each array has 16 places
+lows : (s : tie.Start) → length (s .args .t5 .lo) ≡ 16
+lows s = length-unmapped Float (s .args .t5 .lo) 16 (s .good .1 .1 .1 .1 .0 .1 .1 .0 .1 .0 .1)
+
+highs : (s : tie.Start) → length (s .args .t5 .hi) ≡ 16
+highs s = length-unmapped Float (s .args .t5 .hi) 16 (s .good .1 .1 .1 .1 .0 .1 .1 .1 .0 .1 .0 .1)
 
 array-share-prefix-point : tie.Need-array-share-prefix-point
 array-share-prefix-point c =
     let p₁ = c .before in
-    let p₂ = p₁ .before .before .before .before .before in
+    let p₂ = p₁ .before .before .before .before .before .before .before in
     moved-wide _ _ (p₁ .midpoints .ensures) _ (p₂ .widest .ensures .0) _
 
 slice-aggregate-distance : tie.Need-slice-aggregate-distance
 slice-aggregate-distance c =
     let p₁ = c .before .before in
-    let p₂ = p₁ .before .before .before .before .before in
+    let p₂ = p₁ .before .before .before .before .before .before .before in
     sym (moved-length _ _ (p₁ .midpoints .ensures) _ (p₂ .widest .ensures .0) _)
 
 distance-requires : tie.Need-distance-requires
 distance-requires c κs =
     let p₁ = c .before .before in
     let p₂ = p₁ .before in
-    let p₃ = p₂ .before .before .before .before .before in
+    let p₃ = p₂ .before .before .before .before .before .before .before in
     let p₄ = p₃ .before .before .before .before in
     (p₄ .pre .0, full _ _ _ (omega (arith, moved-length _ _ (p₂ .midpoints .ensures) _ (p₃ .widest .ensures .0) (p₁ .midpoint .result), p₄ .pre .1 .few)) (p₄ .pre .1 .long))
 
 array-share-prefix-point-2 : tie.Need-array-share-prefix-point-2
 array-share-prefix-point-2 c =
     let p₁ = c .before .before .before .before .before .before .before in
-    let p₂ = p₁ .before .before .before .before .before in
+    let p₂ = p₁ .before .before .before .before .before .before .before in
     again-wide _ _ (p₁ .midpoints .ensures) _ (p₂ .widest .ensures .0) _ _
 
 slice-aggregate-distance-2 : tie.Need-slice-aggregate-distance-2
 slice-aggregate-distance-2 c =
     let p₁ = c .before .before .before .before .before .before .before .before in
-    let p₂ = p₁ .before .before .before .before .before in
+    let p₂ = p₁ .before .before .before .before .before .before .before in
     sym (again-length _ _ (p₁ .midpoints .ensures) _ (p₂ .widest .ensures .0) _ _)
 
 distance-requires-2 : tie.Need-distance-requires-2
@@ -45,64 +56,65 @@ distance-requires-2 c κs =
     let p₂ = p₁ .before .before .before in
     let p₃ = p₂ .before .before .before in
     let p₄ = p₃ .before in
-    let p₅ = p₄ .before .before .before .before .before in
+    let p₅ = p₄ .before .before .before .before .before .before .before in
     let p₆ = p₅ .before .before .before .before in (
       p₆ .pre .0,
       full _ _ _ (omega (arith, again-length _ _ (p₄ .midpoints .ensures) _ (p₅ .widest .ensures .0) (p₃ .midpoint .result) (p₁ .midpoint2 .result), p₆ .pre .1 .few))
           (omega (arith, p₂ .distance .kept .1 .1 .1 .1 .1 .0, p₆ .pre .1 .long)),
     )
 
-with-box-requires : tie.Need-with-box-requires
-with-box-requires c κs =
-    let p₁ = c .before .before .before .before .before .before .before .before .before .before .before .before .before .before .before .before .before .before in
+mul-half : tie.Need-mul-half
+mul-half c =
+    let p₁ = c .before .before .before .before .before .before .before .before .before .before .before .before .before .before .before .before .before .before .before .before in
     let p₂ = p₁ .before .before .before .before in
-    (p₂ .pre .1 .few, p₁ .widest .ensures .0)
+    omega (arith, p₁ .widest .ensures .0, p₂ .pre .1 .few)
+
+element-write-half : tie.Need-element-write-half
+element-write-half c =
+    let p₁ = c .before .before .before .before .before .before .before .before .before .before .before .before .before .before .before .before .before .before .before .before in
+    let p₂ = p₁ .before .before .before .before in
+    omega (arith, p₁ .widest .ensures .0, p₂ .pre .1 .few)
+
+mul-half-2 : tie.Need-mul-half-2
+mul-half-2 c =
+    let p₁ = c .before .before .before .before .before .before .before .before .before .before .before .before .before .before .before .before .before .before .before .before in
+    let p₂ = p₁ .before .before .before .before in
+    omega (arith, p₁ .widest .ensures .0, p₂ .pre .1 .few)
+
+element-write-half-2 : tie.Need-element-write-half-2
+element-write-half-2 c =
+    let p₁ = c .before .before .before .before .before .before .before .before .before .before .before .before .before .before .before .before .before .before .before .before in
+    let p₂ = p₁ .before .before .before .before in
+    omega (arith, p₁ .widest .ensures .0, p₂ .pre .1 .few)
 
 returns : tie.Need-returns
+unfolding boxesOf
 returns c =
-    let p₁ = c .before in
+    let p₁ = c .before .before .before in
     let p₂ = p₁ .before .before .before in
     let p₃ = p₂ .before .before .before in
     let p₄ = p₃ .before .before .before in
-    let p₅ = p₄ .before .before .before in
-    let p₆ = p₅ .before in
-    let p₇ = p₆ .before .before .before in
-    let p₈ = p₇ .before in
-    let p₉ = p₈ .before in (
-      c .with-box .ensures .0,
-      c .with-box .ensures .1
-          ∙ halved-lower _ _ _ (p₉ .widest .ensures .1) (p₈ .at .ensures) (p₇ .split .ensures) (moved-distance _ _ (p₆ .midpoints .ensures) _ (p₉ .widest .ensures .0) _ _ _ (p₅ .midpoint .ensures) (p₄ .distance .ensures))
-          (again-distance _ _ (p₆ .midpoints .ensures) _ (p₉ .widest .ensures .0) _ _ _ _ (p₃ .midpoint2 .ensures) (p₂ .distance2 .ensures)) (p₁ .if1 .taken),
-    )
-
-with-box-requires-2 : tie.Need-with-box-requires-2
-with-box-requires-2 c κs =
-    let p₁ = c .before .before .before .before .before .before .before .before .before .before .before .before .before .before .before .before .before .before in
-    let p₂ = p₁ .before .before .before .before in
-    (p₂ .pre .1 .few, p₁ .widest .ensures .0)
-
-returns-2 : tie.Need-returns-2
-returns-2 c =
-    let p₁ = c .before in
-    let p₂ = p₁ .before .before .before in
-    let p₃ = p₂ .before .before .before in
-    let p₄ = p₃ .before .before .before in
-    let p₅ = p₄ .before .before .before in
-    let p₆ = p₅ .before in
-    let p₇ = p₆ .before .before .before in
-    let p₈ = p₇ .before in
-    let p₉ = p₈ .before in (
-      c .with-box2 .ensures .0,
-      c .with-box2 .ensures .1
-          ∙ halved-upper _ _ _ (p₉ .widest .ensures .1) (p₈ .at .ensures) (p₇ .split .ensures) (moved-distance _ _ (p₆ .midpoints .ensures) _ (p₉ .widest .ensures .0) _ _ _ (p₅ .midpoint .ensures) (p₄ .distance .ensures))
-          (again-distance _ _ (p₆ .midpoints .ensures) _ (p₉ .widest .ensures .0) _ _ _ _ (p₃ .midpoint2 .ensures) (p₂ .distance2 .ensures)) (p₁ .if1 .left),
-    )
+    let p₅ = p₄ .before in
+    let p₆ = p₅ .before .before .before in
+    let p₇ = p₆ .before in
+    let p₈ = p₇ .before .before .before in
+    let p₉ = p₈ .before .before .before .before in
+    let b = p₉ .args .t5 in
+    let inside = p₈ .widest .ensures .0 in
+    let i = p₇ .new .ensures ∙ boxes-at b _ (lows p₉) (highs p₉) (p₉ .pre .1 .few) inside in
+    let low = moved-distance _ _ (p₅ .midpoints .ensures) _ inside _ _ _ (p₄ .midpoint .ensures) (p₃ .distance .ensures) in
+    let high = again-distance _ _ (p₅ .midpoints .ensures) _ inside _ _ _ _ (p₂ .midpoint2 .ensures) (p₁ .distance2 .ensures) in
+    (refl, first-set _ _ _ _ _ _ inside ∙ halved-is _ _ _ (p₈ .widest .ensures .1) i (p₆ .split .ensures) low high (c .better .ensures))
 
 pub halved-spec : {M : Type 1} → statement M
 halved-spec =
     tie.close
     (tie.spec
     (λ c κs. search needs)
+    (λ c. search needs)
+    (λ c. search needs)
+    (λ c. search needs)
+    (λ c. search needs)
     (λ c κs. search needs)
     (λ c κs. search needs)
     (λ c κs. search needs)
@@ -118,9 +130,10 @@ halved-spec =
     array-share-prefix-point-2
     slice-aggregate-distance-2
     distance-requires-2
-    with-box-requires
+    (λ c κs. search needs)
+    mul-half
+    element-write-half
+    mul-half-2
+    element-write-half-2
     (λ c. search needs)
-    returns
-    with-box-requires-2
-    (λ c. search needs)
-    returns-2)
+    returns)
