@@ -138,6 +138,11 @@ starting-sound zero bounds s = tt
 starting-sound (suc n) [] s = (missing-sound, starting-sound n [] tt)
 starting-sound (suc n) (b ∷ bs) s = (s .0, starting-sound n bs (s .1))
 
+-- An accepted problem: the constants of its constraint are f64 values, and its bounds are sound.
+pub record Fair (p : Problem) (bounds : List Interval) : Type 0 where
+  pub constants : ConstraintHeld (p .constraint)
+  pub ranges : Each Sound bounds
+
 module _ (σ : Settings) (p : Problem) (bounds : List Interval) (f : ConstraintHeld (p .constraint)) (s : Each Sound bounds) where
   empty-holds : (k : Bool) → check σ [] (p .constraint) ≡ k → Holds σ p f [] (beginEmpty k)
   unfolding beginEmpty
@@ -161,6 +166,6 @@ module _ (σ : Settings) (p : Problem) (bounds : List Interval) (f : ConstraintH
   solve-holds zero = untried-holds σ p f (startingBox p bounds) _ _ (run-holds σ p f (startingBox p bounds) 0 _ begin-keeps)
   solve-holds (suc L) = run-holds σ p f (startingBox p bounds) (suc L) _ begin-keeps
 
-  pub assignment-kept : (L : ℕ) (m : List Float) (exact : Bool) (h : ℕ) → solve σ p bounds L ≡ assignment m exact h
-      → InBox (startingBox p bounds) m × (check σ m (p .constraint) ≡ true)
-  assignment-kept L m exact h e = subst (Holds σ p f (startingBox p bounds)) e (solve-holds L)
+pub assignment-kept : (σ : Settings) (p : Problem) (bounds : List Interval) → Fair p bounds → (L : ℕ) (m : List Float) (exact : Bool) (h : ℕ) → solve σ p bounds L ≡ assignment m exact h
+    → InBox (startingBox p bounds) m × (check σ m (p .constraint) ≡ true)
+assignment-kept σ p bounds f L m exact h e = subst (Holds σ p (f .constants) (startingBox p bounds)) e (solve-holds σ p bounds (f .constants) (f .ranges) L)

@@ -1,4 +1,4 @@
--- Demand 3: raising the limit changes no answer but "limit".
+-- The count of halvings is at most the limit, and raising the limit changes no answer but "limit". Assumes nothing.
 use mathlib.Core.Path.{_≡_, refl, sym, _∙_, subst}
 use Prim.Native.Nat.{ℕ, zero, suc, _+_, _≤_, _<_}
 use native.Mathlib.Omega.{arith}
@@ -6,7 +6,7 @@ use mathlib.Core.Bool.{Bool, true, false, false≢true}
 use mathlib.Core.List.{List}
 use Rattle.settings.specs.declared.Settings.{Settings}
 use Rattle.interval.specs.declared.Interval.{Interval}
-use Rattle.nra.specs.Solver.{Problem, Answer, halvingsOf, reached, State, Progress, Stopped, Going, beginChecked, beginNarrowed, beginEmpty, beginIn, beginAt, begin, settleChecked, settleNarrowed, settleIn, halve, steps, finish, run, solve}
+use Rattle.nra.specs.Solver.{Problem, Answer, assignment, failed, halvingsOf, reached, State, Progress, Stopped, Going, beginChecked, beginNarrowed, beginEmpty, beginIn, beginAt, begin, settleChecked, settleNarrowed, settleIn, halve, steps, finish, run, untried, solve}
 
 -- a run that has made h halvings, and has not stopped at the limit
 data Counted (h : ℕ) : Progress → Type 0 where
@@ -58,17 +58,39 @@ module _ (σ : Settings) (p : Problem) (bounds : List Interval) where
   run-stopped zero a = refl
   run-stopped (suc n) a = refl
 
+  -- ---- the count of halvings, under the limit L
+  pub record Counts (L : ℕ) (a : Answer) : Type 0 where
+    pub at-most : halvingsOf a ≤ L
+    pub limit-itself : reached a ≡ true → halvingsOf a ≡ L
+
+  run-counts : (n : ℕ) {L h : ℕ} {g : Progress} → L ≡ h + n → Counted h g → Counts L (run σ p n g)
+  unfolding run steps finish
+  run-counts zero q (stopped e l) = record { at-most = omega (arith, e); limit-itself = λ r. absurd (false≢true (sym l ∙ r)) }
+  run-counts zero q (going e) = record { at-most = omega (arith, e); limit-itself = λ r. omega (arith, e) }
+  run-counts (suc n) q (stopped e l) = record { at-most = omega (arith, e); limit-itself = λ r. absurd (false≢true (sym l ∙ r)) }
+  run-counts (suc n) q (going {s} e) = run-counts n (omega arith) (subst (λ (x : ℕ). Counted (suc x) (halve σ p s)) e (halve-counted s))
+
+  untried-counts : (v L : ℕ) (a : Answer) → Counts L a → Counts L (untried v a)
+  unfolding untried
+  untried-counts zero L a c = c
+  untried-counts (suc v) L (assignment m exact h) c = record { at-most = c .at-most; limit-itself = c .limit-itself }
+  untried-counts (suc v) L (failed w r h) c = c
+
+  pub solve-counts : (L : ℕ) → Counts L (solve σ p bounds L)
+  unfolding solve
+  solve-counts zero = untried-counts _ 0 _ (run-counts 0 (omega arith) begin-counted)
+  solve-counts (suc L) = run-counts (suc L) (omega arith) begin-counted
+
+  -- ---- two limits
   -- Of a run that ends before its limit n, h halvings having been made: how the other limits m compare.
   record Ends (h n : ℕ) (g : Progress) : Type 0 where
     least : h ≤ halvingsOf (run σ p n g)
-    most : halvingsOf (run σ p n g) ≤ h + n
     same : (m : ℕ) → halvingsOf (run σ p n g) ≤ h + m → run σ p m g ≡ run σ p n g
     early : (m : ℕ) → h + m < halvingsOf (run σ p n g) → (reached (run σ p m g) ≡ true) × (halvingsOf (run σ p m g) ≡ h + m)
 
   ends-stopped : (h n : ℕ) (a : Answer) → halvingsOf a ≡ h → Ends h n (Stopped a)
   ends-stopped h n a e = record {
     least = rw (run-stopped n a, e) (omega arith);
-    most = rw (run-stopped n a, e) (omega arith);
     same = λ m k. run-stopped m a ∙ sym (run-stopped n a);
     early = λ m k. absurd (omega (arith, rw (run-stopped n a, e) at k));
   }
@@ -77,7 +99,6 @@ module _ (σ : Settings) (p : Problem) (bounds : List Interval) where
   unfolding run steps finish
   ends-going n h s c e = record {
     least = omega (arith, e .least);
-    most = omega (arith, e .most);
     same = λ m k. same′ m k;
     early = λ m k. early′ m k;
   }
@@ -97,18 +118,16 @@ module _ (σ : Settings) (p : Problem) (bounds : List Interval) where
   ends (suc n) {h} (stopped {a} e l) r = ends-stopped h (suc n) a e
   ends (suc n) {h} (going {s} e) r = ends-going n h s e (ends n (subst (λ (x : ℕ). Counted (suc x) (halve σ p s)) e (halve-counted s)) r)
 
-  -- The answer under a limit L of at least 1, where it is not "limit" and has h halvings: h is at most L, under any other limit of at least h
-  -- the same answer comes, and under one below h "limit" comes, with that many halvings.
-  pub record Settled (L : ℕ) : Type 0 where
-    pub within : halvingsOf (solve σ p bounds L) ≤ L
+  -- The answer under a limit L of at least 1, where it is not "limit" and has h halvings: under any other limit of at least h the same answer
+  -- comes, and under one below h "limit" comes, with that many halvings.
+  pub record Raised (L : ℕ) : Type 0 where
     pub same : (M : ℕ) → 1 ≤ M → halvingsOf (solve σ p bounds L) ≤ M → solve σ p bounds M ≡ solve σ p bounds L
     pub early : (M : ℕ) → 1 ≤ M → M < halvingsOf (solve σ p bounds L) → (reached (solve σ p bounds M) ≡ true) × (halvingsOf (solve σ p bounds M) ≡ M)
 
-  pub raising-the-limit : (L : ℕ) → 1 ≤ L → reached (solve σ p bounds L) ≡ false → Settled L
+  pub raising-the-limit : (L : ℕ) → 1 ≤ L → reached (solve σ p bounds L) ≡ false → Raised L
   unfolding solve
   raising-the-limit zero l r = absurd (omega arith)
   raising-the-limit (suc L) l r = record {
-    within = omega (arith, e .most);
     same = λ M k q. same′ M k q;
     early = λ M k q. early′ M k q;
   }

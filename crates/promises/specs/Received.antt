@@ -1,32 +1,27 @@
--- What the callers of `nra::solve_file` and `nra::solve` receive: the definition's answer to the problem that an accepted file says, or accepted records. Assumes nothing.
-use mathlib.Core.Path.{_≡_, refl}
-use Prim.Native.Nat.{ℕ, zero, suc, _-_, _/_, _≤_}
-use mathlib.Core.Bool.{Bool, true, false, _&&_}
-use mathlib.Core.List.{List, [], _∷_, _++_}
+-- What a caller receives: the struct that is returned against the definition's answer, and what is promised of it. Assumes nothing.
+use mathlib.Core.Path.{_≡_, refl, sym, ap, _∙_}
+use Prim.Native.Nat.{ℕ, zero, suc, _≤_, _<_}
+use mathlib.Core.Bool.{Bool, true, false}
+use mathlib.Core.List.{List}
 use native.Mathlib.Omega.{arith}
-use lib.Dec.{leb, eqb}
-use lib.ListN.{length, take}
+use borrow.Author.Tests.{leb-true, leb-false}
+use lib.Dec.{leb}
+use lib.ListN.{take}
 use lib.Seq.{take-append-seam}
-use lib.Ieee.{Float, binary64}
-use lib.Ieee.Bits.{ofBits-fits}
-use lib.Ieee.Fits.{and-r}
-use Rattle.number.specs.Order.{passed}
-use Rattle.record.specs.Bytes.{f64At}
-use Rattle.record.specs.Refusal.{_or-else_}
-use Rattle.record.specs.RefusalLaws.{none-both, none-unless}
+use lib.Ieee.{Float}
 use Rattle.settings.specs.declared.Settings.{Settings}
 use Rattle.interval.specs.declared.Interval.{Interval}
-use Rattle.interval.specs.Inside.{Ends, Sound, Each, AllHeld, ends-held, boxes-sound}
-use Rattle.interval.specs.Boxes.{intervals, padded, allSound, areBoxes}
+use Rattle.interval.specs.Boxes.{padded}
 use Rattle.constraint.specs.Constraint.{Constraint}
-use Rattle.file.specs.File.{nodesOf, constraintsOf, boundsOf, constraintCount, boundCount, boundAt, bounds, refusal, left, Accepted, readBy, readFile, givenRefusal, readGiven}
-use Rattle.file.specs.FileLaws.{bound-sound, read-is, given-is}
-use Rattle.narrow.specs.Held.{ConstraintHeld, constraint-held}
+use Rattle.file.specs.File.{Read, Refused, Accepted}
+use Rattle.point.specs.Check.{check}
 use Rattle.nra.specs.declared.answer.Stop as Word
 use Rattle.nra.specs.declared.answer.Solved.{Solved}
 use Rattle.nra.specs.Solver.{Problem, Stop, conflict, tolerance, limit, unsatisfied, Answer, assignment, failed, halvingsOf, reached, solve}
-use Rattle.nra.specs.Answers.{problem, solvedOf}
-use Rattle.nra.specs.Calls.{limitRefusal, boxesRefusal, answeredBy, solveFile, solveGiven}
+use Rattle.nra.specs.Answers.{solvedOf, refusedWith, wordOf}
+use Rattle.nra.specs.Calls.{answeredBy}
+use Rattle.promises.specs.Limit.{solve-counts, raising-the-limit}
+use Rattle.promises.specs.Assignments.{Fair, InBox, startingBox, assignment-kept}
 
 -- ---- the struct that is returned, and the definition's answer
 -- the stop word "limit"
@@ -64,91 +59,98 @@ not-limit Word.Stop.Tolerance n = refl
 not-limit Word.Stop.Limit n = absurd (n refl)
 not-limit Word.Stop.Unsatisfied n = refl
 
--- the point of an answer
-abbrev pub pointOf : Solved → List Float
-pointOf r = take (r .count) (r .point)
+-- the values of an answer's point
+abbrev pub valuesOf : Solved → List Float
+valuesOf r = take (r .count) (r .point)
 
-pub point-is : (m : List Float) (exact : Bool) (h : ℕ) → pointOf (solvedOf (assignment m exact h)) ≡ m
+pub values-are : (m : List Float) (exact : Bool) (h : ℕ) → valuesOf (solvedOf (assignment m exact h)) ≡ m
 unfolding solvedOf padded
-point-is m exact h = take-append-seam m _
+values-are m exact h = take-append-seam m _
 
--- An accepted problem: the constants of its constraint are f64 values, and its bounds are sound.
-pub record Fair (p : Problem) (bounds : List Interval) : Type 0 where
-  pub constants : ConstraintHeld (p .constraint)
-  pub ranges : Each Sound bounds
+-- ---- the count of halvings
+-- x is what comes back under the limit L; a refusal has no halvings
+pub record Counted (L : ℕ) (x : Solved) : Type 0 where
+  pub at-most : x .halvings ≤ L
+  pub limit-itself : x .stop ≡ Word.Stop.Limit → x .halvings ≡ L
+  pub refused : (x .refusal ≡ 0 → ⊥) → x .halvings ≡ 0
 
--- ---- what is accepted
--- an answer with no refusal number is the definition's
-accepted : (r q : ℕ) (c : Constraint) (bs : List Interval) (f : Constraint → List Interval → Answer) → answeredBy (readBy r (Accepted c bs)) q f .refusal ≡ 0 → (r ≡ 0) × (q ≡ 0)
-accepted zero zero c bs f e = (refl, refl)
-accepted zero (suc q) c bs f e = absurd (omega arith)
-accepted (suc r) q c bs f e = absurd (omega arith)
+refused-counted : (L n : ℕ) → Counted L (refusedWith n)
+refused-counted L n = record { at-most = omega arith; limit-itself = λ e. let z : _≡_ {A = ℕ} 0 1 = cc in absurd (omega arith); refused = λ e. refl }
 
-bound-ends : (b : List ℕ) (k : ℕ) → Ends (boundAt b k)
-unfolding boundAt f64At
-bound-ends b k = record { lo = ofBits-fits binary64 _; hi = ofBits-fits binary64 _ }
+not-refused : (a : Answer) → solvedOf a .refusal ≡ 0
+unfolding solvedOf
+not-refused (assignment m exact h) = refl
+not-refused (failed w r h) = refl
 
-each-more : (P : Interval → Type 0) (b : List Interval) (i : Interval) → Each P b → P i → Each P (b ++ i ∷ [])
-each-more P [] i h k = (k, tt)
-each-more P (x ∷ xs) i h k = (h .0, each-more P xs i (h .1) k)
+pub solved-counted : (σ : Settings) (p : Problem) (bounds : List Interval) (L : ℕ) → Counted L (solvedOf (solve σ p bounds L))
+solved-counted σ p bounds L =
+    let a = solve σ p bounds L in
+    let c = solve-counts σ p bounds L in
+    record {
+      at-most = omega (arith, halvings-are a, c .at-most);
+      limit-itself = λ e. sym (halvings-are a) ∙ c .limit-itself (limit-is a ∙ ap isLimit e);
+      refused = λ e. absurd (e (not-refused a));
+    }
 
--- the bounds of an accepted file are sound
-all-bounds : (file : List ℕ) → refusal file ≡ 0 → (n : ℕ) → n ≤ boundCount file → Each Sound (bounds (boundsOf file) n)
-unfolding bounds
-all-bounds file e zero h = tt
-all-bounds file e (suc n) h = each-more Sound (bounds (boundsOf file) n) (boundAt (boundsOf file) n) (all-bounds file e n (omega arith)) (record { range = passed (bound-sound file e n h); ends = bound-ends (boundsOf file) n })
+pub answered-counted : (L : ℕ) (x : Read) (later : ℕ) (answer : Constraint → List Interval → Answer) → ((c : Constraint) (bs : List Interval) → Counted L (solvedOf (answer c bs))) → Counted L (answeredBy x later answer)
+answered-counted L (Refused r) later answer h = refused-counted L r
+answered-counted L (Accepted c bs) zero answer h = h c bs
+answered-counted L (Accepted c bs) (suc n) answer h = refused-counted L (suc n)
 
--- and so are a caller's boxes
-given-sound : (lo hi : List Float) → AllHeld lo → AllHeld hi → boxesRefusal lo hi ≡ 0 → Each Sound (intervals lo hi)
-unfolding boxesRefusal areBoxes
-given-sound lo hi p q e =
-    let t : (eqb (length lo) (length hi) && leb (length lo) 16) && allSound (intervals lo hi) ≡ true = none-unless 8 _ e in
-    boxes-sound (intervals lo hi) (ends-held lo hi p q) (and-r (eqb (length lo) (length hi) && leb (length lo) 16) (allSound (intervals lo hi)) (passed t))
+-- ---- two limits
+-- x is the answer under a limit, and not "limit"; y is that under the limit M
+pub record Settled (x : Solved) (M : ℕ) (y : Solved) : Type 0 where
+  -- the same stop word, assignment, exactness, failure residual and count, exactly when M is at least the halvings
+  pub comes-back : x .halvings ≤ M → y ≡ x
+  pub only-then : y ≡ x → x .halvings ≤ M
+  pub below : M < x .halvings → (y .stop ≡ Word.Stop.Limit) × (y .halvings ≡ M)
 
--- ---- the call on a file
--- what an accepted file says
-unfoldable pub fileProblem : List ℕ → Float → Problem
-fileProblem file ε = problem (left (nodesOf file) (constraintsOf file) (constraintCount file)) ε
+-- ---- an assignment
+-- it lies in the starting box of the problem and passes the check of its constraint
+pub record Passes (σ : Settings) (p : Problem) (bs : List Interval) (m : List Float) : Type 0 where
+  pub inside : InBox (startingBox p bs) m
+  pub passes : check σ m (p .constraint) ≡ true
 
-abbrev pub fileBounds : List ℕ → List Interval
-fileBounds file = bounds (boundsOf file) (boundCount file)
+module _ (σ : Settings) (p : Problem) (bs : List Interval) (L : ℕ) {x : Solved} (answer : x ≡ solvedOf (solve σ p bs L)) where
+  pub settled : (M : ℕ) {y : Solved} → y ≡ solvedOf (solve σ p bs M) → 1 ≤ L → 1 ≤ M → (x .stop ≡ Word.Stop.Limit → ⊥) → Settled x M y
+  settled M {y} answer-M l k n = record { comes-back = λ h. again h; only-then = λ e. by (leb (x .halvings) M) refl e; below = λ h. early h }
+    where
+      counted : x .halvings ≡ halvingsOf (solve σ p bs L)
+      counted = rw answer (sym (halvings-are (solve σ p bs L)))
 
-module _ (σ : Settings) (file : List ℕ) (ε : Float) where
-  module _ (L : ℕ) (taken : solveFile σ file L ε .refusal ≡ 0) where
-    file-accepted : (refusal file ≡ 0) × (limitRefusal L ε ≡ 0)
-    unfolding solveFile readFile
-    file-accepted = accepted (refusal file) (limitRefusal L ε) _ _ _ taken
+      other : reached (solve σ p bs L) ≡ false
+      other = limit-is (solve σ p bs L) ∙ not-limit _ (λ e. n (ap (λ (r : Solved). r .stop) answer ∙ e))
 
-    pub file-answer : solveFile σ file L ε ≡ solvedOf (solve σ (fileProblem file ε) (fileBounds file) L)
-    unfolding solveFile fileProblem
-    file-answer = rw (read-is file (file-accepted .0), file-accepted .1)
+      again : x .halvings ≤ M → y ≡ x
+      again h = answer-M ∙ ap solvedOf (raising-the-limit σ p bs L l other .same M k (omega (arith, counted))) ∙ sym answer
 
-    pub file-fair : Fair (fileProblem file ε) (fileBounds file)
-    unfolding fileProblem
-    file-fair = record { constants = constraint-held (nodesOf file) (constraintsOf file) (constraintCount file - 1); ranges = up-to (boundCount file) (omega arith) }
-      where
-        up-to : (n : ℕ) → n ≤ boundCount file → Each Sound (bounds (boundsOf file) n)
-        up-to n h = all-bounds file (file-accepted .0) n h
+      early : M < x .halvings → (y .stop ≡ Word.Stop.Limit) × (y .halvings ≡ M)
+      early h =
+          let b = raising-the-limit σ p bs L l other .early M k (omega (arith, counted)) in (
+            ap (λ (r : Solved). r .stop) answer-M ∙ word-limit _ (sym (limit-is (solve σ p bs M)) ∙ b .0),
+            ap (λ (r : Solved). r .halvings) answer-M ∙ sym (halvings-are (solve σ p bs M)) ∙ b .1,
+          )
 
--- ---- the call on records with bounds
-unfoldable pub givenProblem : List ℕ → List ℕ → Float → Problem
-givenProblem nodes b ε = problem (left nodes b (length b / 24)) ε
+      by : (t : Bool) → leb (x .halvings) M ≡ t → y ≡ x → x .halvings ≤ M
+      by true q e = leb-true _ _ q
+      by false q e = absurd (n (ap (λ (r : Solved). r .stop) (sym e) ∙ early (leb-false _ _ q) .0))
 
-module _ (σ : Settings) (nodes b : List ℕ) (lo hi : List Float) (ε : Float) where
-  module _ (L : ℕ) (taken : solveGiven σ nodes b lo hi L ε .refusal ≡ 0) where
-    given-accepted : (givenRefusal nodes b ≡ 0) × (limitRefusal L ε or-else boxesRefusal lo hi ≡ 0)
-    unfolding solveGiven readGiven
-    given-accepted = accepted (givenRefusal nodes b) (limitRefusal L ε or-else boxesRefusal lo hi) _ _ _ taken
+  pub passing : Fair p bs → x .stop ≡ Word.Stop.Assignment → Passes σ p bs (valuesOf x)
+  unfolding solvedOf
+  passing f e = by (solve σ p bs L) refl
+    where
+      never : (w : Stop) (r : Float) (h : ℕ) → solve σ p bs L ≡ failed w r h → wordOf w ≡ Word.Stop.Assignment
+      never w r h q = sym (ap (λ (r : Solved). r .stop) (answer ∙ ap solvedOf q)) ∙ e
 
-    pub given-answer : solveGiven σ nodes b lo hi L ε ≡ solvedOf (solve σ (givenProblem nodes b ε) (intervals lo hi) L)
-    unfolding solveGiven givenProblem
-    given-answer = rw (given-is nodes b (given-accepted .0), given-accepted .1)
+      not-assignment : (w : Stop) → wordOf w ≡ Word.Stop.Assignment → ⊥
+      not-assignment conflict q = let z : _≡_ {A = ℕ} 0 1 = cc in omega arith
+      not-assignment tolerance q = let z : _≡_ {A = ℕ} 0 1 = cc in omega arith
+      not-assignment limit q = let z : _≡_ {A = ℕ} 0 1 = cc in omega arith
+      not-assignment unsatisfied q = let z : _≡_ {A = ℕ} 0 1 = cc in omega arith
 
-    -- the ends are f64 values, as those of a slice are
-    module _ (lows : AllHeld lo) (highs : AllHeld hi) where
-      pub given-fair : Fair (givenProblem nodes b ε) (intervals lo hi)
-      unfolding givenProblem
-      given-fair = record {
-        constants = constraint-held nodes b (length b / 24 - 1);
-        ranges = given-sound lo hi lows highs (none-both (limitRefusal L ε) _ (given-accepted .1) .1);
-      }
+      by : (a : Answer) → solve σ p bs L ≡ a → Passes σ p bs (valuesOf x)
+      by (assignment m exact h) q =
+          let r = assignment-kept σ p bs f L m exact h q in
+          let i : valuesOf x ≡ m = ap valuesOf (answer ∙ ap solvedOf q) ∙ values-are m exact h in
+          record { inside = rw i (r .0); passes = rw i (r .1) }
+      by (failed w r h) q = absurd (not-assignment w (never w r h q))
