@@ -8,8 +8,6 @@
 #include <inttypes.h>
 #include <stdio.h>
 
-static const char *const STOPS[] = {"assignment", "conflict", "tolerance", "limit", "unsatisfied"};
-
 static int failed(const char *path) {
     perror(path);
     return 1;
@@ -32,26 +30,20 @@ int main(int argc, char **argv) {
     }
     fclose(stream);
 
-    uint8_t stop = 0;
-    bool exact = false;
-    double residual = 0.0;
-    size_t halvings = 0;
-    size_t count = 0;
-    double point[EML_MOST_VALUES] = {0.0};
-    uint8_t refusal = eml_solve_file(file, length, 10000, 1e-8, &stop, &exact, &residual, &halvings, &count, point,
-                                     EML_MOST_VALUES);
+    eml_solution solution;
+    uint8_t refusal = eml_solve_file_to(file, length, 10000, 1e-8, &solution);
     if (refusal != 0) {
         printf("refused %u\n", (unsigned)refusal);
     } else {
-        printf("%s\n", STOPS[stop]);
-        if (stop == EML_ASSIGNMENT) {
-            printf("exact %d\n", exact);
+        printf("%s\n", eml_stop_word(solution.stop));
+        if (solution.stop == EML_ASSIGNMENT) {
+            printf("exact %d\n", solution.exact);
         } else {
-            printf("best %016" PRIX64 "\n", eml_bits_of(residual));
+            printf("best %016" PRIX64 "\n", eml_bits_of(solution.residual));
         }
-        printf("halvings %zu\n", halvings);
-        for (size_t i = 0; i < count; i++) {
-            printf("v%zu %016" PRIX64 "\n", i, eml_bits_of(point[i]));
+        printf("halvings %zu\n", solution.halvings);
+        for (size_t i = 0; i < solution.count; i++) {
+            printf("v%zu %016" PRIX64 "\n", i, eml_bits_of(solution.point[i]));
         }
     }
     return fflush(stdout) == 0 ? 0 : failed("stdout");
