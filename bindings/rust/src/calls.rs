@@ -2,6 +2,10 @@
 //! caller's own.
 //!
 //! The other calls of this crate are made of these. They are for who lends the places: a refusal alters none of them.
+//!
+//! # Errors
+//!
+//! Records are tested first, 2 to 7; then 8, 9 and 10 as far as a call has them. `eml.h` names those of each call.
 
 #![allow(unsafe_code)]
 
@@ -32,6 +36,51 @@ pub fn read_records(records: Records<'_>) -> Result<(), Refusal> {
 /// The number of variables of a file's constraint.
 pub fn num_vars(file: &[u8], out: &mut u64) -> Result<(), Refusal> {
     Refusal::unless_zero(unsafe { raw::eml_num_vars(file.as_ptr(), file.len(), out) })
+}
+
+/// The number of variables of a constraint given by records.
+pub fn num_vars_records(records: Records<'_>, out: &mut u64) -> Result<(), Refusal> {
+    let Records { nodes, constraints } = records;
+    Refusal::unless_zero(unsafe {
+        raw::eml_num_vars_records(
+            nodes.as_ptr(),
+            nodes.len(),
+            constraints.as_ptr(),
+            constraints.len(),
+            out,
+        )
+    })
+}
+
+/// The first `num_vars` bounds, given by their lower and upper ends, with [-10,10] for a missing one, to the first places of
+/// `out_lo` and `out_hi`.
+pub fn domain_new(
+    lo: &[f64],
+    hi: &[f64],
+    num_vars: usize,
+    out_lo: &mut [f64],
+    out_hi: &mut [f64],
+) -> Result<(), Refusal> {
+    Refusal::unless_zero(unsafe {
+        raw::eml_domain_new(
+            lo.as_ptr(),
+            lo.len(),
+            hi.as_ptr(),
+            hi.len(),
+            num_vars,
+            out_lo.as_mut_ptr(),
+            out_lo.len(),
+            out_hi.as_mut_ptr(),
+            out_hi.len(),
+        )
+    })
+}
+
+/// Whether any of the intervals, given by their lower and upper ends, is empty.
+pub fn domain_is_empty(lo: &[f64], hi: &[f64], out: &mut bool) -> Result<(), Refusal> {
+    Refusal::unless_zero(unsafe {
+        raw::eml_domain_is_empty(lo.as_ptr(), lo.len(), hi.as_ptr(), hi.len(), out)
+    })
 }
 
 /// Appends the four nodes of ln x to a list of `count` nodes, whose free places are the bytes after them.

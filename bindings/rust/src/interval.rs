@@ -1,5 +1,6 @@
 //! Intervals.
 
+use crate::format::MOST_VALUES;
 use crate::raw;
 
 /// An interval: two ends, laid out as the static library has them.
@@ -34,42 +35,49 @@ fn written(call: impl FnOnce(&mut f64, &mut f64)) -> Interval {
 impl Interval {
     /// From `lo` to `hi`.
     #[inline]
+    #[must_use]
     pub fn new(lo: f64, hi: f64) -> Self {
         written(|low, high| raw::eml_interval_new(lo, hi, low, high))
     }
 
     /// Just `v`.
     #[inline]
+    #[must_use]
     pub fn point(v: f64) -> Self {
         written(|low, high| raw::eml_interval_point(v, low, high))
     }
 
     /// Whether `lo` is above `hi`, or an end is a NaN.
     #[inline]
+    #[must_use]
     pub fn is_empty(self) -> bool {
         raw::eml_interval_is_empty(self.lo, self.hi)
     }
 
     /// `hi - lo`.
     #[inline]
+    #[must_use]
     pub fn width(self) -> f64 {
         raw::eml_interval_width(self.lo, self.hi)
     }
 
     /// `(lo + hi) / 2`.
     #[inline]
+    #[must_use]
     pub fn midpoint(self) -> f64 {
         raw::eml_interval_midpoint(self.lo, self.hi)
     }
 
     /// Whether `x` is between the ends.
     #[inline]
+    #[must_use]
     pub fn contains(self, x: f64) -> bool {
         raw::eml_interval_contains(self.lo, self.hi, x)
     }
 
     /// The lower and the upper half.
     #[inline]
+    #[must_use]
     pub fn split(self) -> (Self, Self) {
         let (mut low, mut middle, mut high) = (0.0, 0.0, 0.0);
         raw::eml_interval_split(self.lo, self.hi, &mut low, &mut middle, &mut high);
@@ -86,6 +94,7 @@ impl Interval {
 
     /// What both have; empty where they lie apart.
     #[inline]
+    #[must_use]
     pub fn intersect(self, other: Self) -> Self {
         written(|low, high| {
             raw::eml_interval_intersect(self.lo, self.hi, other.lo, other.hi, low, high);
@@ -94,6 +103,7 @@ impl Interval {
 
     /// The smallest interval that has both.
     #[inline]
+    #[must_use]
     pub fn hull(self, other: Self) -> Self {
         written(|low, high| {
             raw::eml_interval_hull(self.lo, self.hi, other.lo, other.hi, low, high);
@@ -102,25 +112,65 @@ impl Interval {
 
     /// exp of both ends.
     #[inline]
+    #[must_use]
     pub fn exp(self) -> Self {
         written(|low, high| raw::eml_interval_exp(self.lo, self.hi, low, high))
     }
 
     /// ln of both ends; empty, [+inf, -inf], where `lo` is zero or below, or an end is not finite.
     #[inline]
+    #[must_use]
     pub fn ln(self) -> Self {
         written(|low, high| raw::eml_interval_ln(self.lo, self.hi, low, high))
     }
 
     /// The arguments whose exp is in this interval: its [`ln`](Self::ln).
     #[inline]
+    #[must_use]
     pub fn exp_inv(self) -> Self {
         written(|low, high| raw::eml_interval_exp_inv(self.lo, self.hi, low, high))
     }
 
     /// The arguments whose ln is in this interval: its [`exp`](Self::exp).
     #[inline]
+    #[must_use]
     pub fn ln_inv(self) -> Self {
         written(|low, high| raw::eml_interval_ln_inv(self.lo, self.hi, low, high))
+    }
+}
+
+/// From the lower and the upper end.
+impl From<(f64, f64)> for Interval {
+    #[inline]
+    fn from((lo, hi): (f64, f64)) -> Self {
+        Self { lo, hi }
+    }
+}
+
+/// The ends of bounds, in two lists. Over 16 bounds are refused with 9 whatever they are, so that 17 stand for any more.
+pub(crate) struct Ends {
+    lo: [f64; Self::PLACES],
+    hi: [f64; Self::PLACES],
+    count: usize,
+}
+
+impl Ends {
+    pub(crate) const PLACES: usize = MOST_VALUES + 1;
+
+    pub(crate) fn of(bounds: &[Interval]) -> Self {
+        let (mut lo, mut hi) = ([0.0; Self::PLACES], [0.0; Self::PLACES]);
+        let count = bounds.len().min(Self::PLACES);
+        for (i, bound) in bounds[..count].iter().enumerate() {
+            (lo[i], hi[i]) = (bound.lo, bound.hi);
+        }
+        Self { lo, hi, count }
+    }
+
+    pub(crate) fn lo(&self) -> &[f64] {
+        &self.lo[..self.count]
+    }
+
+    pub(crate) fn hi(&self) -> &[f64] {
+        &self.hi[..self.count]
     }
 }

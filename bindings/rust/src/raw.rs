@@ -63,6 +63,31 @@ unsafe extern "C" {
         constraints_length: usize,
     ) -> u8;
     pub fn eml_num_vars(file: *const u8, length: usize, out: &mut u64) -> u8;
+    pub fn eml_num_vars_records(
+        nodes: *const u8,
+        nodes_length: usize,
+        constraints: *const u8,
+        constraints_length: usize,
+        out: &mut u64,
+    ) -> u8;
+    pub fn eml_domain_new(
+        lo: *const f64,
+        lo_length: usize,
+        hi: *const f64,
+        hi_length: usize,
+        num_vars: usize,
+        out_lo: *mut f64,
+        out_lo_length: usize,
+        out_hi: *mut f64,
+        out_hi_length: usize,
+    ) -> u8;
+    pub fn eml_domain_is_empty(
+        lo: *const f64,
+        lo_length: usize,
+        hi: *const f64,
+        hi_length: usize,
+        out: &mut bool,
+    ) -> u8;
     pub fn eml_canonical_ln(nodes: *mut u8, length: usize, count: usize, x: usize) -> u8;
     pub fn eml_canonical_sub(nodes: *mut u8, length: usize, count: usize, x: usize, y: usize)
     -> u8;

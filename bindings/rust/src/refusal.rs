@@ -1,6 +1,7 @@
 //! Document 01's refusals.
 
-use std::fmt;
+use crate::numbered::{LIBRARY, try_from_number};
+use core::fmt;
 
 /// Why a call was refused: document 01's numbers 1 to 10.
 ///
@@ -16,6 +17,7 @@ use std::fmt;
 /// assert_eq!(refusal.to_string(), "refused 1: under 32 bytes, or wrong first eight bytes");
 /// ```
 #[derive(Clone, Copy, Debug, PartialEq, Eq, PartialOrd, Ord, Hash)]
+#[non_exhaustive]
 #[repr(u8)]
 pub enum Refusal {
     /// 1: under 32 bytes, or wrong first eight bytes.
@@ -40,13 +42,19 @@ pub enum Refusal {
     TooShort = 10,
 }
 
+try_from_number!(
+    Refusal: Header, Layout, Node, Extent, Constraint, Range, Nesting, LimitOrTolerance, Boxes, TooShort
+);
+
 impl Refusal {
     /// Document 01's number.
+    #[must_use]
     pub fn number(self) -> u8 {
         self as u8
     }
 
     /// Document 01's words for the number.
+    #[must_use]
     pub fn text(self) -> &'static str {
         match self {
             Self::Header => "under 32 bytes, or wrong first eight bytes",
@@ -65,20 +73,10 @@ impl Refusal {
     /// What a call's number says: 0 is no refusal.
     #[inline]
     pub(crate) fn unless_zero(number: u8) -> Result<(), Self> {
-        Err(match number {
-            0 => return Ok(()),
-            1 => Self::Header,
-            2 => Self::Layout,
-            3 => Self::Node,
-            4 => Self::Extent,
-            5 => Self::Constraint,
-            6 => Self::Range,
-            7 => Self::Nesting,
-            8 => Self::LimitOrTolerance,
-            9 => Self::Boxes,
-            10 => Self::TooShort,
-            other => unreachable!("no call returns {other}"),
-        })
+        match number {
+            0 => Ok(()),
+            number => Err(Self::try_from(number).expect(LIBRARY)),
+        }
     }
 }
 
@@ -88,4 +86,4 @@ impl fmt::Display for Refusal {
     }
 }
 
-impl std::error::Error for Refusal {}
+impl core::error::Error for Refusal {}

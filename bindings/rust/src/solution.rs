@@ -1,76 +1,29 @@
 //! What the solver answers.
 
 use crate::calls::SolvePlaces;
-use crate::{Refusal, number};
-use std::fmt;
-use std::ops::Deref;
-
-/// A point never has more values: no more variables are taken.
-pub(crate) const MOST_VALUES: usize = 16;
-
-/// The values of a point, at most 16, without a heap. It is read as a slice.
-#[derive(Clone, Copy)]
-pub struct Point {
-    values: [f64; MOST_VALUES],
-    count: usize,
-}
-
-impl Point {
-    /// The first `count` of the values.
-    #[inline]
-    pub(crate) fn new(values: [f64; MOST_VALUES], count: usize) -> Self {
-        Self { values, count }
-    }
-}
-
-impl Deref for Point {
-    type Target = [f64];
-
-    #[inline]
-    fn deref(&self) -> &[f64] {
-        &self.values[..self.count]
-    }
-}
-
-impl fmt::Debug for Point {
-    fn fmt(&self, f: &mut fmt::Formatter<'_>) -> fmt::Result {
-        fmt::Debug::fmt(&**self, f)
-    }
-}
-
-impl PartialEq for Point {
-    fn eq(&self, other: &Self) -> bool {
-        **self == **other
-    }
-}
+use crate::format::MOST_VALUES;
+use crate::numbered::{LIBRARY, try_from_number};
+use crate::{List, Point, Refusal, number};
+use core::fmt;
 
 /// Why the solver stopped. It is displayed as document 01's stop word.
 #[derive(Clone, Copy, Debug, PartialEq, Eq, Hash)]
+#[repr(u8)]
 pub enum Stop {
     /// A point passes the check.
-    Assignment,
-    /// Narrowing met a conflict.
-    Conflict,
+    Assignment = 0,
+    /// Narrowing met a conflict. That is no proof that there is no point: see
+    /// [`Records::check_midpoint`](crate::Records::check_midpoint).
+    Conflict = 1,
     /// The box became narrower than the tolerance, and its point does not pass.
-    Tolerance,
+    Tolerance = 2,
     /// As many halvings as the limit allows, and no point passed.
-    Limit,
+    Limit = 3,
     /// There are no variables, and the constraint does not hold.
-    Unsatisfied,
+    Unsatisfied = 4,
 }
 
-impl Stop {
-    fn of(number: u8) -> Self {
-        match number {
-            0 => Self::Assignment,
-            1 => Self::Conflict,
-            2 => Self::Tolerance,
-            3 => Self::Limit,
-            4 => Self::Unsatisfied,
-            other => unreachable!("no call writes the stop {other}"),
-        }
-    }
-}
+try_from_number!(Stop: Assignment, Conflict, Tolerance, Limit, Unsatisfied);
 
 impl fmt::Display for Stop {
     fn fmt(&self, f: &mut fmt::Formatter<'_>) -> fmt::Result {
@@ -86,6 +39,7 @@ impl fmt::Display for Stop {
 
 /// An answer of the solver. It is displayed as the lines that document 01's printing program prints.
 #[derive(Clone, Copy, Debug, PartialEq)]
+#[non_exhaustive]
 pub struct Solution {
     /// Why it stopped.
     pub stop: Stop,
@@ -101,6 +55,12 @@ pub struct Solution {
 }
 
 impl Solution {
+    /// The values of an assignment, one for each variable; `None` for any other answer.
+    #[must_use]
+    pub fn assignment(&self) -> Option<&[f64]> {
+        (self.stop == Stop::Assignment).then_some(&*self.point)
+    }
+
     /// The answer that a call writes. There is room for every point, so none is refused with 10.
     pub(crate) fn written(
         call: impl FnOnce(&mut SolvePlaces<'_>) -> Result<(), Refusal>,
@@ -124,8 +84,8 @@ impl Solution {
             ..
         } = to;
         Ok(Self {
-            stop: Stop::of(stop),
-            point: Point::new(values, count),
+            stop: Stop::try_from(stop).expect(LIBRARY),
+            point: List::new(values, count),
             exact,
             residual,
             halvings,

@@ -1,7 +1,8 @@
 //! Document 01's examples on variable 0, and the refusals of the caller, through the safe calls.
 
 use eml::{
-    Decision, Evaluation, Interval, Propagation, Records, Refusal, Stop, canonical, ge, gt, le, lt,
+    Decision, DecisionError, Evaluation, Interval, Propagation, Records, Refusal, Stop, canonical,
+    ge, gt, le, lt,
 };
 
 const EQ_ZERO: u8 = 0;
@@ -130,18 +131,28 @@ fn decisions() {
         constraints: &constraints,
     };
     let all = Interval::new(-1.0, 1.0);
-    let Ok(Decision::FalseWithCounterexample(point)) = records.decide_forall(0, all, 3) else {
+    let Ok(Decision::FalseWithCounterexample(point)) = records.decide_forall(0, all) else {
         panic!("-1 is not above 0");
     };
-    assert_eq!(*point, [-1.0, 0.0, 0.0]);
-    let Ok(Decision::TrueWithWitness(point)) = records.decide_exists(0, all, 16) else {
+    assert_eq!(*point, [-1.0]);
+    let Ok(Decision::TrueWithWitness(point)) = records.decide_exists(0, all) else {
         panic!("1 is above 0");
     };
-    assert_eq!((point[0], point.len()), (1.0, 16));
-    let refused = Err(Refusal::Boxes);
-    assert_eq!(records.decide_exists(0, all, 17), refused);
+    assert_eq!(*point, [1.0]);
+    let absent = DecisionError::NoSuchVariable {
+        var: 1,
+        num_vars: 1,
+    };
+    assert_eq!(records.decide_exists(1, all), Err(absent));
+    assert_eq!(
+        records
+            .decide_forall(usize::MAX, all)
+            .map_err(|e| e.to_string()),
+        Err("no variable 18446744073709551615: the constraint has 1".to_string())
+    );
+    let refused = Err(DecisionError::Refused(Refusal::Boxes));
     let reversed = Interval::new(1.0, -1.0);
-    assert_eq!(records.decide_forall(0, reversed, 1), refused);
+    assert_eq!(records.decide_forall(0, reversed), refused);
 }
 
 #[test]
