@@ -32,6 +32,46 @@ pub fn num_vars(file: &[u8]) -> Result<u64, Refusal> {
     refused_unless_zero(number, out)
 }
 
+/// The number of variables of a constraint given by records.
+pub fn num_vars_records(nodes: &[u8], constraints: &[u8]) -> Result<u64, Refusal> {
+    let mut out = UNTOUCHED;
+    let records = Records { nodes, constraints };
+    let number = number(calls::num_vars_records(records, &mut out));
+    assert!(number == 0 || out == UNTOUCHED);
+    refused_unless_zero(number, out)
+}
+
+/// The boxes that a run starts from, in as many places as `room` says for their lower and upper ends. Places past them, and all
+/// of a refusal, must stay.
+pub fn domain_new(
+    lo: &[f64],
+    hi: &[f64],
+    num_vars: usize,
+    room: (usize, usize),
+) -> Result<Vec<(f64, f64)>, Refusal> {
+    let places = |room| vec![f64::from_bits(UNTOUCHED); room];
+    let (mut out_lo, mut out_hi) = (places(room.0), places(room.1));
+    let call = calls::domain_new(lo, hi, num_vars, &mut out_lo, &mut out_hi);
+    let number = number(call);
+    let written = if number == 0 { num_vars } else { 0 };
+    let after = out_lo[written..].iter().chain(&out_hi[written..]);
+    assert!(after.into_iter().all(|x| x.to_bits() == UNTOUCHED));
+    let boxes = out_lo.into_iter().zip(out_hi).take(written);
+    refused_unless_zero(number, boxes.collect())
+}
+
+/// Whether any interval is empty.
+pub fn domain_is_empty(lo: &[f64], hi: &[f64]) -> Result<bool, Refusal> {
+    let answers = [false, true].map(|before| {
+        let mut out = before;
+        let number = number(calls::domain_is_empty(lo, hi, &mut out));
+        assert!(number == 0 || out == before);
+        refused_unless_zero(number, out)
+    });
+    assert_eq!(answers[0], answers[1]);
+    answers[0]
+}
+
 /// A node's value at a point, or the error.
 #[derive(Clone, Copy, Debug)]
 pub enum Evaluated {

@@ -121,7 +121,9 @@ fn records() {
         };
         let ours = port::number(records.test());
         let theirs = house::read_records(&nodes, &constraints);
-        assert_eq!(ours, theirs.err().unwrap_or(0));
+        let variables = theirs.map(|problem| count_constraint_vars(&problem.constraint) as u64);
+        assert_eq!(port::num_vars_records(&nodes, &constraints), variables);
+        assert_eq!(ours, variables.err().unwrap_or(0));
         tally.add(ours);
     }
     tally.done(&[0, 2, 3, 4, 5, 6, 7], 1000);
