@@ -1,33 +1,32 @@
 //! Document 01's examples on variable 0, and the refusals of the caller, through the safe calls.
 
 use eml::{
-    Decision, DecisionError, Evaluation, Interval, Propagation, Records, Refusal, Stop, canonical,
-    ge, gt, le, lt,
+    Constraint, Decision, DecisionError, Evaluation, Interval, Node, Propagation, Records, Refusal,
+    Relation, Stop, canonical, ge, gt, le, lt,
 };
 
-const EQ_ZERO: u8 = 0;
-const GT_ZERO: u8 = 1;
-const NE_ZERO: u8 = 5;
-const AND: u8 = 7;
-const OR: u8 = 8;
-
 /// Variable 0.
-const VARIABLE: [u8; 16] = [2, 0, 0, 0, 0, 0, 0, 0, 0, 0, 0, 0, 0, 0, 0, 0];
+fn variable() -> [u8; 16] {
+    Node::Var(0).to_bytes()
+}
 
-fn constraints(list: &[(u8, u8)]) -> Vec<u8> {
-    let mut bytes = vec![0; 24 * list.len()];
-    for (record, &(kind, argument)) in bytes.chunks_mut(24).zip(list) {
-        (record[0], record[4]) = (kind, argument);
-    }
-    bytes
+/// A relation of node 0.
+const fn atom(relation: Relation) -> Constraint {
+    Constraint::Atom { relation, node: 0 }
+}
+
+const EQ_ZERO: Constraint = atom(Relation::EqZero);
+const GT_ZERO: Constraint = atom(Relation::GtZero);
+
+fn constraints(list: &[Constraint]) -> Vec<u8> {
+    list.iter().flat_map(|c| c.to_bytes()).collect()
 }
 
 /// What propagation answers and leaves, on a list of intervals and on two lists of ends.
-fn narrowed(list: &[(u8, u8)], lo: f64, hi: f64) -> (Propagation, Interval) {
-    let constraints = constraints(list);
+fn narrowed(list: &[Constraint], lo: f64, hi: f64) -> (Propagation, Interval) {
     let records = Records {
-        nodes: &VARIABLE,
-        constraints: &constraints,
+        nodes: &variable(),
+        constraints: &constraints(list),
     };
     let mut boxes = [Interval::new(lo, hi)];
     let answer = records.propagate(&mut boxes).expect("taken");
@@ -41,29 +40,33 @@ fn narrowed(list: &[(u8, u8)], lo: f64, hi: f64) -> (Propagation, Interval) {
 #[test]
 fn narrowing() {
     use Propagation::{Changed, Conflict, Stable};
-    assert_eq!(narrowed(&[(GT_ZERO, 0)], -3.0, -1.0).0, Conflict);
+    assert_eq!(narrowed(&[GT_ZERO], -3.0, -1.0).0, Conflict);
     let point = Interval::point(0.0);
-    assert_eq!(narrowed(&[(EQ_ZERO, 0)], -1.0, 2.0), (Changed, point));
-    let both = [(EQ_ZERO, 0), (GT_ZERO, 0), (AND, 2)];
+    assert_eq!(narrowed(&[EQ_ZERO], -1.0, 2.0), (Changed, point));
+    let both = [EQ_ZERO, GT_ZERO, Constraint::And(2)];
     assert_eq!(narrowed(&both, -1.0, 2.0), (Conflict, point));
-    let either = [(EQ_ZERO, 0), (GT_ZERO, 0), (OR, 2)];
+    let either = [EQ_ZERO, GT_ZERO, Constraint::Or(2)];
     let right = Interval::new(0.0, 2.0);
     assert_eq!(narrowed(&either, -1.0, 2.0), (Changed, right));
     let above = Interval::new(f64::from_bits(1), 1.0);
-    assert_eq!(narrowed(&[(NE_ZERO, 0)], 0.0, 1.0), (Changed, above));
-    assert_eq!(narrowed(&[(AND, 0)], 0.0, 1.0).0, Stable);
-    assert_eq!(narrowed(&[(OR, 0)], 0.0, 1.0).0, Conflict);
+    assert_eq!(
+        narrowed(&[atom(Relation::NeZero)], 0.0, 1.0),
+        (Changed, above)
+    );
+    assert_eq!(narrowed(&[Constraint::And(0)], 0.0, 1.0).0, Stable);
+    assert_eq!(narrowed(&[Constraint::Or(0)], 0.0, 1.0).0, Conflict);
 }
 
 #[test]
 fn evaluation() {
-    // Const 0, One, Eml(0, 1); Const -1, Eml(0, 3).
-    let mut nodes = [0; 16 * 5];
-    nodes[0] = 1;
-    (nodes[32], nodes[40]) = (3, 1);
-    nodes[48] = 1;
-    nodes[56..64].copy_from_slice(&(-1.0_f64).to_le_bytes());
-    (nodes[64], nodes[72]) = (3, 3);
+    let nodes = [
+        Node::Const(0.0),
+        Node::One,
+        Node::Eml { left: 0, right: 1 },
+        Node::Const(-1.0),
+        Node::Eml { left: 0, right: 3 },
+    ];
+    let nodes = nodes.map(Node::to_bytes).concat();
     let records = Records {
         nodes: &nodes,
         constraints: &[],
@@ -74,7 +77,7 @@ fn evaluation() {
     assert_eq!(records.eval_real(4, &[]), Ok(complex));
     assert_eq!(records.eval_real(5, &[]), Err(Refusal::Node));
     let records = Records {
-        nodes: &VARIABLE,
+        nodes: &variable(),
         constraints: &[],
     };
     let beyond = Evaluation::VarOutOfBounds { index: 0, count: 0 };
@@ -86,9 +89,9 @@ fn evaluation() {
 
 #[test]
 fn exactness_and_limits_of_a_caller() {
-    let constraints = constraints(&[(GT_ZERO, 0)]);
+    let constraints = constraints(&[GT_ZERO]);
     let records = Records {
-        nodes: &VARIABLE,
+        nodes: &variable(),
         constraints: &constraints,
     };
     let two = [Interval::point(2.0)];
@@ -116,7 +119,7 @@ fn exactness_and_limits_of_a_caller() {
     assert_eq!(records.solve(&reversed, 1, 1e-8), Err(Refusal::Boxes));
     // The records are tested before what the caller gives with them.
     let damaged = Records {
-        nodes: &VARIABLE[..15],
+        nodes: &variable()[..15],
         constraints: &constraints,
     };
     assert_eq!(damaged.test(), Err(Refusal::Layout));
@@ -125,9 +128,9 @@ fn exactness_and_limits_of_a_caller() {
 
 #[test]
 fn decisions() {
-    let constraints = constraints(&[(GT_ZERO, 0)]);
+    let constraints = constraints(&[GT_ZERO]);
     let records = Records {
-        nodes: &VARIABLE,
+        nodes: &variable(),
         constraints: &constraints,
     };
     let all = Interval::new(-1.0, 1.0);
@@ -144,12 +147,8 @@ fn decisions() {
         num_vars: 1,
     };
     assert_eq!(records.decide_exists(1, all), Err(absent));
-    assert_eq!(
-        records
-            .decide_forall(usize::MAX, all)
-            .map_err(|e| e.to_string()),
-        Err("no variable 18446744073709551615: the constraint has 1".to_string())
-    );
+    assert_eq!(absent.to_string(), "no variable 1: the constraint has 1");
+    assert!(records.decide_forall(usize::MAX, all).is_err());
     let refused = Err(DecisionError::Refused(Refusal::Boxes));
     let reversed = Interval::new(1.0, -1.0);
     assert_eq!(records.decide_forall(0, reversed), refused);
@@ -158,17 +157,15 @@ fn decisions() {
 #[test]
 fn normal_form() {
     // Not of GtZero is LeZero.
-    let constraints = constraints(&[(GT_ZERO, 0), (6, 0)]);
+    let constraints = constraints(&[GT_ZERO, Constraint::Not]);
     let records = Records {
-        nodes: &VARIABLE,
+        nodes: &variable(),
         constraints: &constraints,
     };
     let mut out = [0xAA; 30];
     assert_eq!(records.to_nnf(&mut out), Ok(1));
-    assert_eq!(
-        (out[0], &out[1..24], &out[24..]),
-        (4, &[0; 23][..], &[0xAA; 6][..])
-    );
+    assert_eq!(out[..24], atom(Relation::LeZero).to_bytes());
+    assert_eq!(out[24..], [0xAA; 6]);
     let mut short = [0xAA; 23];
     assert_eq!(records.to_nnf(&mut short), Err(Refusal::TooShort));
     assert_eq!(short, [0xAA; 23]);
@@ -178,7 +175,7 @@ fn normal_form() {
 fn building() {
     // Variable 0 and One, with free places for ln x and x - 1.
     let mut nodes = [0; 16 * 13];
-    nodes[0] = 2;
+    nodes[..16].copy_from_slice(&variable());
     assert_eq!(canonical::ln(&mut nodes, 2, 0), Ok(5));
     assert_eq!(canonical::sub(&mut nodes, 6, 5, 1), Ok(12));
     let records = Records {
@@ -191,16 +188,17 @@ fn building() {
     assert!(x.abs() < 1e-12);
     assert_eq!(canonical::ln(&mut nodes, 13, 0), Err(Refusal::TooShort));
     assert_eq!(canonical::sub(&mut nodes, 2, 0, 2), Err(Refusal::Node));
-    for (call, kind) in [
-        (gt as fn(&mut [u8], usize, usize, usize) -> _, GT_ZERO),
-        (ge, 2),
-        (lt, 3),
-        (le, 4),
+    for (call, relation) in [
+        (
+            gt as fn(&mut [u8], usize, usize, usize) -> _,
+            Relation::GtZero,
+        ),
+        (ge, Relation::GeZero),
+        (lt, Relation::LtZero),
+        (le, Relation::LeZero),
     ] {
         let record: eml::Record = call(&mut nodes, 2, 0, 1).expect("taken");
-        let mut expected = [0; 24];
-        (expected[0], expected[4]) = (kind, 8);
-        assert_eq!(record, expected);
+        assert_eq!(record, Constraint::Atom { relation, node: 8 }.to_bytes());
     }
 }
 
