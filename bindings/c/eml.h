@@ -62,18 +62,18 @@ enum {
 
 /*
  * Byte 0 of a constraint's record; its argument is at 4, and the range of a quantifier, lo and hi, at 8 and at 16. Records are
- * in postorder: one that takes others comes after them.
+ * in postorder: one that takes others comes after them. What a kind says is as the check tests it.
  */
 enum {
-    EML_KIND_EQ_ZERO = 0, /* the value of the node that the argument names is 0 */
-    EML_KIND_GT_ZERO = 1, /* it is above 0 */
-    EML_KIND_GE_ZERO = 2, /* it is 0 or above */
-    EML_KIND_LT_ZERO = 3, /* it is below 0 */
-    EML_KIND_LE_ZERO = 4, /* it is 0 or below */
-    EML_KIND_NE_ZERO = 5, /* it is not 0 */
+    EML_KIND_EQ_ZERO = 0, /* of the node that the argument names: |v| < 1e-8, v being its value */
+    EML_KIND_GT_ZERO = 1, /* v > 0 */
+    EML_KIND_GE_ZERO = 2, /* v >= -1e-12 */
+    EML_KIND_LT_ZERO = 3, /* v < 0 */
+    EML_KIND_LE_ZERO = 4, /* v <= 1e-12 */
+    EML_KIND_NE_ZERO = 5, /* |v| > 1e-12 */
     EML_KIND_NOT = 6,     /* takes the last finished constraint; the argument is 0 */
     EML_KIND_AND = 7,     /* takes the last so many, which all hold */
-    EML_KIND_OR = 8,      /* takes the last so many, of which one holds */
+    EML_KIND_OR = 8,      /* takes the last so many, of which some hold */
     EML_KIND_FORALL = 9,  /* takes the last one, which holds for each value of the variable that the argument names */
     EML_KIND_EXISTS = 10  /* takes the last one, which holds for some value of it */
 };

@@ -4,21 +4,21 @@ use crate::Interval;
 use crate::format::{CONSTRAINT_BYTES, f64_at, u32_at};
 use crate::numbered::try_from_number;
 
-/// What an atom says of its node's value. Its number is the kind of the atom's record.
+/// What an atom says of its node's value v, as the check tests it. Its number is the kind of the atom's record.
 #[derive(Clone, Copy, Debug, PartialEq, Eq, Hash)]
 #[repr(u8)]
 pub enum Relation {
-    /// It is 0.
+    /// |v| < 1e-8.
     EqZero = 0,
-    /// It is above 0.
+    /// v > 0.
     GtZero = 1,
-    /// It is 0 or above.
+    /// v >= -1e-12.
     GeZero = 2,
-    /// It is below 0.
+    /// v < 0.
     LtZero = 3,
-    /// It is 0 or below.
+    /// v <= 1e-12.
     LeZero = 4,
-    /// It is not 0.
+    /// |v| > 1e-12.
     NeZero = 5,
 }
 
@@ -38,7 +38,7 @@ pub enum Constraint {
     Not,
     /// Kind 7: each of the last so many finished constraints holds.
     And(u32),
-    /// Kind 8: one of the last so many finished constraints holds.
+    /// Kind 8: some of the last so many finished constraints hold.
     Or(u32),
     /// Kind 9: the last finished constraint holds for each value of a variable.
     ForAll {
