@@ -5,9 +5,12 @@ use reference::error::EmlError;
 use reference::eval::EvalCtx;
 use reference::house::{Node, Parts, Record, kind, read_file, read_nodes};
 use reference::smt::constraint::{EmlConstraint, EmlSolution};
-use reference::smt::helpers::{check_constraint, evaluate_constraint_residual};
+use reference::smt::helpers::{
+    QuantResult, check_constraint, decide_forall, evaluate_constraint_residual,
+};
 use reference::smt::interval::{IntervalDomain, PropResult};
 use reference::smt::nra::EmlNraSolver;
+use reference::standins;
 use reference::tree::EmlTree;
 
 const PI: u64 = 0x4009_21FB_5444_2D18;
@@ -98,6 +101,56 @@ fn narrowing_beyond_the_check() {
     let lt = EmlConstraint::LtZero(var());
     assert!(check_constraint(&lt, &EvalCtx::new(&[-1e-16])));
     assert_eq!(propagate(lt, -1e-16, 0.0).0, PropResult::Conflict);
+}
+
+/// Narrowing does not round outward: the constant comes back through exp and ln as another number, and its interval is empty. Every
+/// point of [0.5, 3.5] is above 0.25, and the answer is Conflict.
+#[test]
+fn narrowing_by_a_constant() {
+    let above = EmlConstraint::gt(var(), EmlTree::const_val(0.25));
+    for x in [0.5, 2.0, 3.5] {
+        assert!(check_constraint(&above, &EvalCtx::new(&[x])));
+    }
+    assert_eq!(propagate(above, 0.5, 3.5).0, PropResult::Conflict);
+}
+
+/// For the same reason a decision is True although a sample fails.
+#[test]
+fn true_though_a_sample_fails() {
+    let body = EmlConstraint::GtZero(EmlTree::eml(&var(), &EmlTree::const_val(5.0)));
+    assert!(!check_constraint(&body, &EvalCtx::new(&[-3.0])));
+    let decision = decide_forall(0, -3.0, 3.0, &body, 1);
+    assert!(matches!(decision, QuantResult::True));
+}
+
+/// x - y is exp(ln x) - ln(exp y), and evaluation clamps exp at 709 and -709: a second operand beyond counts as that end, and one so
+/// small that exp of it is 1 as 0. As the first operand 0 counts as 1.8e-307, and one of -10,000 gives a difference that is not real.
+#[test]
+fn comparisons_at_their_ends() {
+    let passes = |c: fn(EmlTree, EmlTree) -> EmlConstraint, x: f64, y: f64| {
+        let constraint = c(EmlTree::const_val(x), EmlTree::const_val(y));
+        check_constraint(&constraint, &EvalCtx::new(&[]))
+    };
+    let (lt, gt) = (EmlConstraint::lt, EmlConstraint::gt);
+    assert!(passes(lt, 700.0, 709.0) && !passes(gt, 700.0, 709.0));
+    assert!(!passes(lt, 800.0, 900.0) && passes(gt, 800.0, 900.0));
+    assert!(passes(lt, -800.0, -900.0) && !passes(gt, -800.0, -900.0));
+    assert!(passes(lt, 0.0, 1e-15) && !passes(gt, 0.0, 1e-15));
+    assert!(passes(gt, 0.0, 0.0) && passes(gt, 0.0, 1e-17));
+    assert!(passes(lt, -8000.0, 1.0) && !passes(lt, -10_000.0, 1.0));
+
+    let below = EmlConstraint::lt(var(), EmlTree::const_val(900.0));
+    assert_eq!(propagate(below.clone(), 800.0, 850.0).0, PropResult::Stable);
+    assert!(solve(&below, &[(800.0, 850.0)], 10_000).is_err());
+}
+
+/// Document 01's exp is not monotone: of the next number up it is one unit lower.
+#[test]
+fn exp_falls() {
+    let x = f64::from_bits(0xBFAF_DECC_AD1C_C760);
+    assert_eq!(x.next_up().to_bits(), 0xBFAF_DECC_AD1C_C75F);
+    assert_eq!(standins::exp(x).to_bits(), 0x3FEE_119F_11F8_8672);
+    assert_eq!(standins::exp(x.next_up()).to_bits(), 0x3FEE_119F_11F8_8671);
 }
 
 #[test]
