@@ -46,6 +46,15 @@ exp--745 : shown (expOf (integer (negsuc 744))) ≡ 1
 unfolding computing
 exp--745 = refl
 
+-- exp is not monotone: of the next number up it is one unit lower
+exp-higher : shown (expOf (bits 0xBFAFDECCAD1CC760)) ≡ 0x3FEE119F11F88672
+unfolding computing
+exp-higher = refl
+
+exp-lower : shown (expOf (bits 0xBFAFDECCAD1CC75F)) ≡ 0x3FEE119F11F88671
+unfolding computing
+exp-lower = refl
+
 -- ---- ln
 
 ln-1 : lnOf (whole 1) ≡ whole 0
