@@ -4,6 +4,7 @@ use reference::compare::say;
 use reference::generate::{self, Shape};
 use reference::printed;
 use reference::splitmix::SplitMix64;
+use std::fs::File;
 use std::io::Write;
 use std::process::{Command, Stdio};
 
@@ -97,4 +98,14 @@ fn the_first_example() {
     assert_eq!(file.len(), 88);
     let lines = "assignment\nexact 0\nhalvings 0\nv0 4000000000000000\n";
     assert_eq!(output(file), lines);
+}
+
+/// A folder opens, and reading it fails.
+#[test]
+fn a_read_error_is_an_empty_file() {
+    let folder = File::open(env!("CARGO_MANIFEST_DIR")).expect("opens");
+    let output = Command::new(PROGRAM).stdin(folder).output().expect("ends");
+    assert!(output.status.success());
+    assert_eq!(output.stdout, b"refused 1\n");
+    assert_eq!(output_of(Command::new(PROGRAM), b""), "refused 1\n");
 }
