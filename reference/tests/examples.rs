@@ -142,6 +142,10 @@ fn comparisons_at_their_ends() {
     let below = EmlConstraint::lt(var(), EmlTree::const_val(900.0));
     assert_eq!(propagate(below.clone(), 800.0, 850.0).0, PropResult::Stable);
     assert!(solve(&below, &[(800.0, 850.0)], 10_000).is_err());
+    // Where the first operand's range reaches 0, nothing is narrowed.
+    let above = EmlConstraint::gt(var(), EmlTree::const_val(5.0));
+    assert_eq!(propagate(above.clone(), 0.0, 10.0).0, PropResult::Stable);
+    assert_ne!(propagate(above, 1.0, 10.0).0, PropResult::Stable);
 }
 
 /// Document 01's exp is not monotone: of the next number up it is one unit lower.
