@@ -1,6 +1,8 @@
-//! The examples in the documents: a fenced block is the file that its fence names.
+//! The examples in the documents: a fenced block is the file that its fence names, and the measured tables are what the programs print. And
+//! what the map names is there.
 
 use reference::compare::say;
+use std::process::Command;
 
 fn read(path: &str) -> Vec<u8> {
     let path = format!("{}/../{path}", env!("CARGO_MANIFEST_DIR"));
@@ -41,7 +43,7 @@ fn bytes(lines: &str) -> Vec<u8> {
 #[test]
 fn blocks_are_their_files() {
     let mut count = 0;
-    for document in ["docs/FORMAT.md", "examples/README.md"] {
+    for document in ["README.md", "docs/FORMAT.md", "examples/README.md"] {
         for (fence, lines) in blocks(document) {
             let (kind, path) = fence.split_once(' ').expect("a kind and a file");
             let block = match kind {
@@ -53,5 +55,50 @@ fn blocks_are_their_files() {
         }
     }
     say(&format!("documents: {count} blocks are their files"));
-    assert!(count >= 4);
+    assert!(count >= 5);
+}
+
+#[test]
+fn tables_are_what_the_programs_print() {
+    for program in [
+        env!("CARGO_BIN_EXE_accuracy"),
+        env!("CARGO_BIN_EXE_false_conflicts"),
+    ] {
+        let output = Command::new(program).output().expect("runs");
+        assert!(output.status.success());
+        let table = String::from_utf8(output.stdout).expect("text");
+        let stands = text("README.md").contains(&format!("\n\n{table}\n"));
+        assert!(stands, "the README's table is not\n{table}");
+    }
+}
+
+/// What stands between backquotes.
+fn quoted(cell: &str) -> impl Iterator<Item = &str> {
+    cell.split('`').skip(1).step_by(2)
+}
+
+#[test]
+fn the_map() {
+    let map = text("docs/MAP.md");
+    for listed in text("crates.txt").lines() {
+        let (name, _) = listed.split_once(':').expect("a crate and a colon");
+        assert!(map.contains(&format!("`{name}`")), "{name} is not there");
+    }
+    let mut count = 0;
+    for row in map.lines().filter(|line| line.starts_with("| ")).skip(1) {
+        let cells: Vec<&str> = row.split('|').collect();
+        let name = quoted(cells[2]).next().expect("a crate");
+        for definitions in quoted(cells[3]) {
+            let file = definitions.trim_start_matches("specs/");
+            read(&format!("crates/{name}/specs/{file}.antt"));
+            count += 1;
+        }
+        for code in quoted(cells[4]).filter(|word| word.ends_with(".rt")) {
+            let file = code.trim_start_matches("src/");
+            read(&format!("crates/{name}/src/{file}"));
+            count += 1;
+        }
+    }
+    say(&format!("documents: the map names {count} files"));
+    assert!(count >= 60);
 }
