@@ -1,5 +1,5 @@
 -- `decide_forall` and `decide_exists` (document 01, "The rest"; helpers.rs). σ are the settings; variable v of n lies in [lo, hi].
-use Prim.Native.Nat.{ℕ, zero, suc, _^_}
+use Prim.Native.Nat.{ℕ, _^_}
 use mathlib.Core.Bool.{Bool, true, false, not, _&&_}
 use mathlib.Core.List.{List, [], _∷_}
 use lib.Dec.{leb}
@@ -12,7 +12,7 @@ use Rattle.settings.specs.declared.Settings.{Settings}
 use Rattle.interval.specs.declared.Interval.{Interval}
 use Rattle.interval.specs.Interval.{_‥_}
 use Rattle.interval.specs.Boxes.{padded}
-use Rattle.record.specs.Refusal.{_unless_}
+use Rattle.record.specs.Refusal.{_or-else_, _unless_, refusedOr}
 use Rattle.constraint.specs.Constraint.{Constraint, Not}
 use Rattle.normal.specs.NormalForm.{toNnf}
 use Rattle.file.specs.File.{Read, Refused, Accepted, readGiven}
@@ -95,6 +95,13 @@ pointOf (TrueWithWitness p) = p
 pointOf (FalseWithCounterexample p) = p
 pointOf Unknown = []
 
+-- the numbers of the verdicts, in the Rust's order
+abbrev pub verdictNumber : Verdict → ℕ
+verdictNumber Verdict.True = 0
+verdictNumber Verdict.TrueWithWitness = 1
+verdictNumber Verdict.FalseWithCounterexample = 2
+verdictNumber Verdict.Unknown = 3
+
 -- refusal 0 is none
 unfoldable pub decidedOf : QuantResult → Decided
 decidedOf q = decided 0 (verdictOf q) (pointOf q)
@@ -103,20 +110,23 @@ decidedOf q = decided 0 (verdictOf q) (pointOf q)
 abbrev pub undecided : ℕ → Decided
 undecided r = decided r Verdict.Unknown []
 
--- ---- the calls on records; document 01's have the settings `usual`
+-- ---- the calls on records; document 01's have the settings `usual`. `room` is how many places there are for a point.
 
 -- 9: over 16 variables, or an unsound range
 unfoldable pub rangeRefusal : Float → Float → ℕ → ℕ
 rangeRefusal lo hi n = 9 unless leb n 16 && sound binary64 lo hi
 
--- the records' own refusal, 2 to 7, then that one
+-- then 10: fewer places for a point than variables
+unfoldable pub laterRefusal : Float → Float → ℕ → ℕ → ℕ
+laterRefusal lo hi n room = rangeRefusal lo hi n or-else 10 unless leb n room
+
+-- the records' own refusal, 2 to 7, then those
 abbrev pub decidedBy : Read → ℕ → (Constraint → QuantResult) → Decided
 decidedBy (Refused r) later decide = undecided r
-decidedBy (Accepted c bounds) zero decide = decidedOf (decide c)
-decidedBy (Accepted c bounds) (suc r) decide = undecided (suc r)
+decidedBy (Accepted c bounds) later decide = refusedOr later undecided (decidedOf (decide c))
 
-unfoldable pub decideForallGiven : Settings → List ℕ → List ℕ → ℕ → Float → Float → ℕ → Decided
-decideForallGiven σ nodes b v lo hi n = decidedBy (readGiven nodes b) (rangeRefusal lo hi n) λ c. decideForall σ v lo hi c n
+unfoldable pub decideForallGiven : Settings → List ℕ → List ℕ → ℕ → Float → Float → ℕ → ℕ → Decided
+decideForallGiven σ nodes b v lo hi n room = decidedBy (readGiven nodes b) (laterRefusal lo hi n room) λ c. decideForall σ v lo hi c n
 
-unfoldable pub decideExistsGiven : Settings → List ℕ → List ℕ → ℕ → Float → Float → ℕ → Decided
-decideExistsGiven σ nodes b v lo hi n = decidedBy (readGiven nodes b) (rangeRefusal lo hi n) λ c. decideExists σ v lo hi c n
+unfoldable pub decideExistsGiven : Settings → List ℕ → List ℕ → ℕ → Float → Float → ℕ → ℕ → Decided
+decideExistsGiven σ nodes b v lo hi n room = decidedBy (readGiven nodes b) (laterRefusal lo hi n room) λ c. decideExists σ v lo hi c n

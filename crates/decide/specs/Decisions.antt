@@ -12,7 +12,8 @@ use lib.Seq.{take-append-seam}
 use lib.Ieee.{Float, binary64}
 use Rattle.number.specs.Notation.{if_then_else_, whole}
 use Rattle.number.specs.Sound.{sound}
-use Rattle.record.specs.RefusalLaws.{both, none-unless}
+use Rattle.record.specs.Refusal.{_unless_}
+use Rattle.record.specs.RefusalLaws.{both, none-both, none-unless}
 use Rattle.settings.specs.declared.Settings.{Settings}
 use Rattle.interval.specs.Interval.{_‥_}
 use Rattle.interval.specs.Boxes.{padded}
@@ -29,7 +30,7 @@ use Rattle.decide.specs.declared.Found.the-variants.{Nowhere, At}
 use Rattle.decide.specs.declared.Verdict.{Verdict}
 use Rattle.decide.specs.declared.Decided.{Decided}
 use Rattle.decide.specs.Deciding.{QuantResult, True, TrueWithWitness, FalseWithCounterexample, Unknown}
-use Rattle.decide.specs.Deciding.{pointAt, forallSamples, existsSamples, first, boxesAt, refutes, forallBy, decideForall, existsBy, decideExists, verdictOf, pointOf, decidedOf, rangeRefusal, decidedBy, decideForallGiven, decideExistsGiven}
+use Rattle.decide.specs.Deciding.{pointAt, forallSamples, existsSamples, first, boxesAt, refutes, forallBy, decideForall, existsBy, decideExists, verdictOf, pointOf, decidedOf, rangeRefusal, laterRefusal, decidedBy, decideForallGiven, decideExistsGiven}
 
 pub point-length : (n v : ℕ) (x : Float) → length (pointAt n v x) ≡ n
 unfolding pointAt
@@ -103,25 +104,27 @@ module _ (σ : Settings) (v : ℕ) (lo hi : Float) (c : Constraint) (n : ℕ) wh
       by (At x) = omega (arith, point-length n v x)
 
 -- ---- the calls
-pub range-few : (lo hi : Float) (n : ℕ) → rangeRefusal lo hi n ≡ 0 → n ≤ 16
-unfolding rangeRefusal
-range-few lo hi n e = leb-true n 16 (both (leb n 16) (sound binary64 lo hi) (none-unless 8 (leb n 16 && sound binary64 lo hi) e) .0)
+pub later-few : (lo hi : Float) (n room : ℕ) → laterRefusal lo hi n room ≡ 0 → (n ≤ 16) × (n ≤ room)
+unfolding laterRefusal rangeRefusal
+later-few lo hi n room e =
+    let w = none-both (9 unless leb n 16 && sound binary64 lo hi) (10 unless leb n room) e in
+    (leb-true n 16 (both (leb n 16) (sound binary64 lo hi) (none-unless 8 (leb n 16 && sound binary64 lo hi) (w .0)) .0), leb-true n room (none-unless 9 (leb n room) (w .1)))
 
-module _ (lo hi : Float) (n : ℕ) (decide : Constraint → QuantResult) (few : (c : Constraint) → length (pointOf (decide c)) ≤ n) where
-  given-values : (x : Read) (r : ℕ) → rangeRefusal lo hi n ≡ r → (decidedBy x r decide .count ≤ n) × (decidedBy x r decide .count ≤ 16)
+module _ (lo hi : Float) (n room : ℕ) (decide : Constraint → QuantResult) (few : (c : Constraint) → length (pointOf (decide c)) ≤ n) where
+  given-values : (x : Read) (r : ℕ) → laterRefusal lo hi n room ≡ r → (decidedBy x r decide .count ≤ 16) × (decidedBy x r decide .count ≤ room)
   unfolding decidedOf
   given-values (Refused q) r e = (omega arith, omega arith)
-  given-values (Accepted c bounds) zero e = (few c, omega (arith, few c, range-few lo hi n e))
+  given-values (Accepted c bounds) zero e = let w = later-few lo hi n room e in (omega (arith, few c, w .0), omega (arith, few c, w .1))
   given-values (Accepted c bounds) (suc r) e = (omega arith, omega arith)
 
-module _ (σ : Settings) (nodes b : List ℕ) (v : ℕ) (lo hi : Float) (n : ℕ) where
-  pub forall-given-values : (decideForallGiven σ nodes b v lo hi n .count ≤ n) × (decideForallGiven σ nodes b v lo hi n .count ≤ 16)
+module _ (σ : Settings) (nodes b : List ℕ) (v : ℕ) (lo hi : Float) (n room : ℕ) where
+  pub forall-given-values : (decideForallGiven σ nodes b v lo hi n room .count ≤ 16) × (decideForallGiven σ nodes b v lo hi n room .count ≤ room)
   unfolding decideForallGiven
-  forall-given-values = given-values lo hi n (λ c. decideForall σ v lo hi c n) (λ c. forall-values σ v lo hi c n) (readGiven nodes b) (rangeRefusal lo hi n) refl
+  forall-given-values = given-values lo hi n room (λ c. decideForall σ v lo hi c n) (λ c. forall-values σ v lo hi c n) (readGiven nodes b) (laterRefusal lo hi n room) refl
 
-  pub exists-given-values : (decideExistsGiven σ nodes b v lo hi n .count ≤ n) × (decideExistsGiven σ nodes b v lo hi n .count ≤ 16)
+  pub exists-given-values : (decideExistsGiven σ nodes b v lo hi n room .count ≤ 16) × (decideExistsGiven σ nodes b v lo hi n room .count ≤ room)
   unfolding decideExistsGiven
-  exists-given-values = given-values lo hi n (λ c. decideExists σ v lo hi c n) (λ c. exists-values σ v lo hi c n) (readGiven nodes b) (rangeRefusal lo hi n) refl
+  exists-given-values = given-values lo hi n room (λ c. decideExists σ v lo hi c n) (λ c. exists-values σ v lo hi c n) (readGiven nodes b) (laterRefusal lo hi n room) refl
 
 -- ---- what a caller receives
 abbrev pub valuesOf : Decided → List Float
@@ -154,43 +157,43 @@ module _ (nodes b : List ℕ) where
   given = left nodes b (length b / 24)
 
   -- only a call that is not refused has a verdict other than Unknown
-  module _ (lo hi : Float) (n : ℕ) (decide : Constraint → QuantResult) where
+  module _ (lo hi : Float) (n room : ℕ) (decide : Constraint → QuantResult) where
     abbrev received : Decided
-    received = decidedBy (readGiven nodes b) (rangeRefusal lo hi n) decide
+    received = decidedBy (readGiven nodes b) (laterRefusal lo hi n room) decide
 
     not-refused : (w : Verdict) → (Verdict.Unknown ≡ w → ⊥) → received .verdict ≡ w → received ≡ decidedOf (decide given)
-    not-refused w k e = by (givenRefusal nodes b) (rangeRefusal lo hi n) refl refl
+    not-refused w k e = by (givenRefusal nodes b) (laterRefusal lo hi n room) refl refl
       where
-        by : (g r : ℕ) → givenRefusal nodes b ≡ g → rangeRefusal lo hi n ≡ r → received ≡ decidedOf (decide given)
+        by : (g r : ℕ) → givenRefusal nodes b ≡ g → laterRefusal lo hi n room ≡ r → received ≡ decidedOf (decide given)
         by zero zero p q = rw (given-is nodes b p, q)
         by zero (suc r) p q = absurd (k (rw (given-is nodes b p, q) at e))
         by (suc g) r p q = absurd (k (rw (given-refused nodes b (suc g) (sym p) (λ z. omega arith)) at e))
 
-  module _ (σ : Settings) (v : ℕ) (lo hi : Float) (n : ℕ) where
+  module _ (σ : Settings) (v : ℕ) (lo hi : Float) (n room : ℕ) where
     abbrev forAll : Constraint → QuantResult
     forAll c = decideForall σ v lo hi c n
 
     abbrev exists : Constraint → QuantResult
     exists c = decideExists σ v lo hi c n
 
-    pub witness-received : decideExistsGiven σ nodes b v lo hi n .verdict ≡ Verdict.TrueWithWitness → check σ (valuesOf (decideExistsGiven σ nodes b v lo hi n)) given ≡ true
+    pub witness-received : decideExistsGiven σ nodes b v lo hi n room .verdict ≡ Verdict.TrueWithWitness → check σ (valuesOf (decideExistsGiven σ nodes b v lo hi n room)) given ≡ true
     unfolding decideExistsGiven decidedOf
     witness-received e =
-        let r = not-refused lo hi n exists Verdict.TrueWithWitness (λ k. let z : _≡_ {A = ℕ} 0 1 = cc in omega arith) e in
+        let r = not-refused lo hi n room exists Verdict.TrueWithWitness (λ k. let z : _≡_ {A = ℕ} 0 1 = cc in omega arith) e in
         ap (λ (x : Decided). check σ (valuesOf x) given) r
         ∙ ap (λ (p : List Float). check σ p given) (values-are (exists given))
         ∙ witness-passes σ v lo hi given n (pointOf (exists given)) (only-witness (exists given) (sym (ap (λ (x : Decided). x .verdict) r) ∙ e))
 
-    pub counterexample-received : decideForallGiven σ nodes b v lo hi n .verdict ≡ Verdict.FalseWithCounterexample → check σ (valuesOf (decideForallGiven σ nodes b v lo hi n)) given ≡ false
+    pub counterexample-received : decideForallGiven σ nodes b v lo hi n room .verdict ≡ Verdict.FalseWithCounterexample → check σ (valuesOf (decideForallGiven σ nodes b v lo hi n room)) given ≡ false
     unfolding decideForallGiven decidedOf
     counterexample-received e =
-        let r = not-refused lo hi n forAll Verdict.FalseWithCounterexample (λ k. let z : _≡_ {A = ℕ} 0 1 = cc in omega arith) e in
+        let r = not-refused lo hi n room forAll Verdict.FalseWithCounterexample (λ k. let z : _≡_ {A = ℕ} 0 1 = cc in omega arith) e in
         ap (λ (x : Decided). check σ (valuesOf x) given) r
         ∙ ap (λ (p : List Float). check σ p given) (values-are (forAll given))
         ∙ counterexample-fails σ v lo hi given n (pointOf (forAll given)) (only-counterexample (forAll given) (sym (ap (λ (x : Decided). x .verdict) r) ∙ e))
 
-    pub true-received : decideForallGiven σ nodes b v lo hi n .verdict ≡ Verdict.True → propagate σ (toNnf (Not given)) (boxesAt n v (lo ‥ hi)) .answer ≡ Conflict
+    pub true-received : decideForallGiven σ nodes b v lo hi n room .verdict ≡ Verdict.True → propagate σ (toNnf (Not given)) (boxesAt n v (lo ‥ hi)) .answer ≡ Conflict
     unfolding decideForallGiven decidedOf
     true-received e =
-        let r = not-refused lo hi n forAll Verdict.True (λ k. let z : _≡_ {A = ℕ} 0 1 = cc in omega arith) e in
+        let r = not-refused lo hi n room forAll Verdict.True (λ k. let z : _≡_ {A = ℕ} 0 1 = cc in omega arith) e in
         true-exactly σ v lo hi given n .0 (only-true (forAll given) (sym (ap (λ (x : Decided). x .verdict) r) ∙ e))

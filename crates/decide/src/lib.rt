@@ -14,7 +14,7 @@ ghost use Rattle.constraint.specs.Starts.{Ready};
 ghost use Rattle.constraint.specs.Views.{the};
 ghost use Rattle.file.specs.File.{givenRefusal};
 ghost use Rattle.file.specs.Code.{givenStarts};
-ghost use Rattle.decide.specs.Deciding.{forallSamples, existsSamples, first, refutes, decided, undecided, decidedOf, decideForall, decideExists, rangeRefusal, decideForallGiven, decideExistsGiven};
+ghost use Rattle.decide.specs.Deciding.{forallSamples, existsSamples, first, refutes, decided, undecided, decidedOf, decideForall, decideExists, laterRefusal, decideForallGiven, decideExistsGiven};
 ghost use Rattle.decide.specs.Views.{sampleOf, boxOf, answersAt};
 ghost use Rattle.record.specs.Views.{old, final};
 
@@ -260,17 +260,18 @@ fn exists_accepted(
 
 // ---- the public calls
 
-// The records' refusal, then 9 for over 16 variables or an unsound range.
+// The records' refusal, then 9 for over 16 variables or an unsound range, then 10 for fewer places than variables.
 fn decision_refusal(
     nodes: &[u8],
     constraints: &[u8],
     lo: f64,
     hi: f64,
     num_vars: usize,
+    room: usize,
     starts: &mut [usize; 256],
 ) -> u8
     requires { ⌜ length (now starts) ≡ 256 ⌝ }
-    ensures { λ r. ⌜ r ≡ (givenRefusal (old nodes) (old constraints) or-else rangeRefusal lo hi «num_vars») ⌝ }
+    ensures { λ r. ⌜ r ≡ (givenRefusal (old nodes) (old constraints) or-else laterRefusal lo hi «num_vars» room) ⌝ }
     ensures { λ _. ⌜ final starts ≡ givenStarts (old nodes) (old constraints) (old starts) ⌝ }
 {
     let r = file::test_given(nodes, constraints, starts);
@@ -278,12 +279,15 @@ fn decision_refusal(
         return r;
     }
     if (num_vars <= 16) & number::is_sound(lo, hi) {
-        return 0;
+        if num_vars <= room {
+            return 0;
+        }
+        return 10;
     }
     9
 }
 
-// Whether the constraint holds for every value of variable `var` in [lo, hi].
+// Whether the constraint holds for every value of variable `var` in [lo, hi]. `room` is how many places the caller has for a point.
 pub fn decide_forall(
     nodes: &[u8],
     constraints: &[u8],
@@ -291,11 +295,12 @@ pub fn decide_forall(
     lo: f64,
     hi: f64,
     num_vars: usize,
+    room: usize,
 ) -> Decided
-    ensures { λ r. ⌜ r ≡ decideForallGiven usual (old nodes) (old constraints) var lo hi «num_vars» ⌝ }
+    ensures { λ r. ⌜ r ≡ decideForallGiven usual (old nodes) (old constraints) var lo hi «num_vars» room ⌝ }
 {
     let mut starts = [0usize; 256];
-    let r = decision_refusal(nodes, constraints, lo, hi, num_vars, &mut starts);
+    let r = decision_refusal(nodes, constraints, lo, hi, num_vars, room, &mut starts);
     if r != 0 {
         return refused(r);
     }
@@ -317,11 +322,12 @@ pub fn decide_exists(
     lo: f64,
     hi: f64,
     num_vars: usize,
+    room: usize,
 ) -> Decided
-    ensures { λ r. ⌜ r ≡ decideExistsGiven usual (old nodes) (old constraints) var lo hi «num_vars» ⌝ }
+    ensures { λ r. ⌜ r ≡ decideExistsGiven usual (old nodes) (old constraints) var lo hi «num_vars» room ⌝ }
 {
     let mut starts = [0usize; 256];
-    let r = decision_refusal(nodes, constraints, lo, hi, num_vars, &mut starts);
+    let r = decision_refusal(nodes, constraints, lo, hi, num_vars, room, &mut starts);
     if r != 0 {
         return refused(r);
     }

@@ -12,9 +12,10 @@ use Rattle.point.specs.declared.EvalAnswer.{EvalAnswer}
 use Rattle.point.specs.declared.CheckAnswer.{CheckAnswer}
 use Rattle.point.specs.declared.ResidualAnswer.{ResidualAnswer}
 use Rattle.point.specs.declared.eval.EvalError.{EvalError}
+use Rattle.point.specs.Answer.{errorNumber}
 use Rattle.normal.specs.declared.Nnf.{Nnf}
-use Rattle.narrow.specs.declared.PropResult.{PropResult}
 use Rattle.narrow.specs.declared.Propagated.{Propagated}
+use Rattle.narrow.specs.Given.{resultNumber}
 use Rattle.record.specs.Views.{old, final}
 
 -- the answer of a function that leaves places of its own, written to another
@@ -54,10 +55,10 @@ abbrev evaluation : ℕ → Float → ℕ → ℕ → Evaluation
 evaluation k v i n = record { kind = k; value = v; index = i; count = n }
 
 abbrev pub failed : EvalError → Evaluation → Evaluation
-failed (EvalError.VarOutOfBounds i n) old = evaluation 1 (old .value) i n
-failed EvalError.NanEncountered old = evaluation 2 (old .value) (old .index) (old .count)
-failed (EvalError.ComplexResult x) old = evaluation 3 x (old .index) (old .count)
-failed (EvalError.ExpOverflow x) old = evaluation 4 x (old .index) (old .count)
+failed (EvalError.VarOutOfBounds i n) old = evaluation (errorNumber (EvalError.VarOutOfBounds i n)) (old .value) i n
+failed EvalError.NanEncountered old = evaluation (errorNumber EvalError.NanEncountered) (old .value) (old .index) (old .count)
+failed (EvalError.ComplexResult x) old = evaluation (errorNumber (EvalError.ComplexResult x)) x (old .index) (old .count)
+failed (EvalError.ExpOverflow x) old = evaluation (errorNumber (EvalError.ExpOverflow x)) x (old .index) (old .count)
 
 abbrev pub evaluated : EvalAnswer → Evaluation → Leaving ℕ Evaluation
 evaluated (EvalAnswer.Refused r) old = r leaving old
@@ -72,11 +73,6 @@ module _ (kind : Both (RefT ℕ) (RefT ℕ)) (value : Both (RefT Float) (RefT Fl
   evaluationAfter = evaluation (final kind) (final value) (final index) (final count)
 
 -- ---- narrowing
-abbrev pub resultNumber : PropResult → ℕ
-resultNumber PropResult.Changed = 0
-resultNumber PropResult.Stable = 1
-resultNumber PropResult.Conflict = 2
-
 abbrev pub propagated : Propagated → ℕ → Leaving ℕ ℕ
 propagated (Propagated.Refused r) old = r leaving old
 propagated (Propagated.Answered x) old = 0 leaving resultNumber x

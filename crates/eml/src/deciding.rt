@@ -1,14 +1,14 @@
 // Decisions about a variable in a range, on records. A refusal leaves the lent places as they were.
-use crate::values::room_refusal;
 use crate::values::write_point;
 use decide::Decided;
 use decide::Verdict;
 ghost use mathlib.Core.Path.{_≡_};
 ghost use Prim.Native.Nat.{_≤_};
+ghost use lib.ListN.{length};
 ghost use Rattle.settings.specs.Settings.{usual};
-ghost use Rattle.decide.specs.Deciding.{decideForallGiven, decideExistsGiven};
+ghost use Rattle.decide.specs.Deciding.{verdictNumber, decideForallGiven, decideExistsGiven};
 ghost use Rattle.record.specs.Views.{old};
-ghost use Rattle.eml.specs.Places.{verdictNumber, Decides};
+ghost use Rattle.eml.specs.Places.{Decides};
 
 fn verdict_number(verdict: Verdict) -> u8
     ensures { λ r. ⌜ r ≡ verdictNumber verdict ⌝ }
@@ -21,19 +21,12 @@ fn verdict_number(verdict: Verdict) -> u8
     }
 }
 
-fn write_decided(
-    answer: Decided,
-    n: usize,
-    verdict: &mut u8,
-    count: &mut usize,
-    point: &mut [f64],
-) -> u8
-    requires { ⌜ (answer .count ≤ n) × (answer .count ≤ 16) ⌝ }
-    ensures { λ r. ⌜ Decides verdict count point r answer n ⌝ }
+fn write_decided(answer: Decided, verdict: &mut u8, count: &mut usize, point: &mut [f64]) -> u8
+    requires { ⌜ (answer .count ≤ 16) × (answer .count ≤ length (now point)) ⌝ }
+    ensures { λ r. ⌜ Decides verdict count point r answer ⌝ }
 {
-    let r = room_refusal(answer.refusal, n, point.len());
-    if r != 0 {
-        return r;
+    if answer.refusal != 0 {
+        return answer.refusal;
     }
     let v = answer.verdict;
     let values = answer.point;
@@ -44,7 +37,7 @@ fn write_decided(
 }
 
 // Whether the constraint holds for every value of variable `var` in [lo, hi]. `verdict` is 0 for True, 1 TrueWithWitness, 2 FalseWithCounterexample, 3
-// Unknown; the first `count` places of `point` are the counterexample, and those past it stay.
+// Unknown; the first `count` places of `point` are the counterexample, and those past it stay. 10 where `point` has fewer places than variables.
 #[no_mangle]
 pub extern "C" fn eml_decide_forall(
     nodes: &[u8],
@@ -57,10 +50,10 @@ pub extern "C" fn eml_decide_forall(
     count: &mut usize,
     point: &mut [f64],
 ) -> u8
-    ensures { λ r. ⌜ Decides verdict count point r (decideForallGiven usual (old nodes) (old constraints) var lo hi «num_vars») «num_vars» ⌝ }
+    ensures { λ r. ⌜ Decides verdict count point r (decideForallGiven usual (old nodes) (old constraints) var lo hi «num_vars» (length (old point))) ⌝ }
 {
-    let answer = decide::decide_forall(nodes, constraints, var, lo, hi, num_vars);
-    write_decided(answer, num_vars, verdict, count, point)
+    let answer = decide::decide_forall(nodes, constraints, var, lo, hi, num_vars, point.len());
+    write_decided(answer, verdict, count, point)
 }
 
 // Whether it holds for some value; the point is the witness.
@@ -76,8 +69,8 @@ pub extern "C" fn eml_decide_exists(
     count: &mut usize,
     point: &mut [f64],
 ) -> u8
-    ensures { λ r. ⌜ Decides verdict count point r (decideExistsGiven usual (old nodes) (old constraints) var lo hi «num_vars») «num_vars» ⌝ }
+    ensures { λ r. ⌜ Decides verdict count point r (decideExistsGiven usual (old nodes) (old constraints) var lo hi «num_vars» (length (old point))) ⌝ }
 {
-    let answer = decide::decide_exists(nodes, constraints, var, lo, hi, num_vars);
-    write_decided(answer, num_vars, verdict, count, point)
+    let answer = decide::decide_exists(nodes, constraints, var, lo, hi, num_vars, point.len());
+    write_decided(answer, verdict, count, point)
 }

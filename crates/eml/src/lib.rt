@@ -2,6 +2,7 @@
 // function behind it is proved to do. A call that can refuse returns document 01's number, or 0, and a refusal writes nothing.
 mod canonical;
 mod deciding;
+mod domains;
 mod intervals;
 mod mathematics;
 mod narrowing;

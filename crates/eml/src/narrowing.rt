@@ -5,10 +5,10 @@ use narrow::Propagated;
 ghost use mathlib.Core.Path.{_≡_};
 ghost use Rattle.record.specs.Leaving.{_leaving_};
 ghost use Rattle.settings.specs.Settings.{usual};
-ghost use Rattle.narrow.specs.Given.{propagateGiven};
+ghost use Rattle.narrow.specs.Given.{resultNumber, propagateGiven};
 ghost use Rattle.lent.specs.Lent.{propagateLent};
 ghost use Rattle.record.specs.Views.{old, final};
-ghost use Rattle.eml.specs.Answers.{writing, resultNumber, propagated};
+ghost use Rattle.eml.specs.Answers.{writing, propagated};
 
 fn result_number(result: PropResult) -> u8
     ensures { λ r. ⌜ r ≡ resultNumber result ⌝ }

@@ -1,5 +1,4 @@
 // Solving, of a file and of records with bounds.
-use crate::values::room_refusal;
 use crate::values::write_point;
 use nra::answer::Solved;
 ghost use Prim.Native.Nat.{_≤_};
@@ -18,12 +17,11 @@ fn write_solved(
     count: &mut usize,
     point: &mut [f64],
 ) -> u8
-    requires { ⌜ s .count ≤ length (s .point) ⌝ }
+    requires { ⌜ (s .count ≤ length (s .point)) × (s .count ≤ length (now point)) ⌝ }
     ensures { λ r. ⌜ Solves stop exact residual halvings count point r s ⌝ }
 {
-    let r = room_refusal(s.refusal, s.count, point.len());
-    if r != 0 {
-        return r;
+    if s.refusal != 0 {
+        return s.refusal;
     }
     let word = s.stop;
     let values = s.point;
@@ -37,7 +35,7 @@ fn write_solved(
 }
 
 // Solves a house file. `stop` is 0 for assignment, 1 conflict, 2 tolerance, 3 limit, 4 unsatisfied. An assignment has its values in the first
-// `count` places of `point`, and gets 10 where there are fewer; any other answer has its residual. A refusal leaves every place as it was.
+// `count` places of `point`; any other answer has its residual. 10 where there are fewer places than variables. A refusal leaves every place as it was.
 #[no_mangle]
 pub extern "C" fn eml_solve_file(
     file: &[u8],
@@ -50,9 +48,9 @@ pub extern "C" fn eml_solve_file(
     count: &mut usize,
     point: &mut [f64],
 ) -> u8
-    ensures { λ r. ⌜ Solves stop exact residual halvings count point r (solveFile usual (old file) limit tolerance) ⌝ }
+    ensures { λ r. ⌜ Solves stop exact residual halvings count point r (solveFile usual (old file) limit tolerance (length (old point))) ⌝ }
 {
-    let s = nra::solve_file(file, limit, tolerance);
+    let s = nra::solve_file(file, limit, tolerance, point.len());
     write_solved(s, stop, exact, residual, halvings, count, point)
 }
 
@@ -72,8 +70,8 @@ pub extern "C" fn eml_solve(
     count: &mut usize,
     point: &mut [f64],
 ) -> u8
-    ensures { λ r. ⌜ Solves stop exact residual halvings count point r (solveGiven usual (old nodes) (old constraints) (old lo) (old hi) limit tolerance) ⌝ }
+    ensures { λ r. ⌜ Solves stop exact residual halvings count point r (solveGiven usual (old nodes) (old constraints) (old lo) (old hi) limit tolerance (length (old point))) ⌝ }
 {
-    let s = nra::solve(nodes, constraints, lo, hi, limit, tolerance);
+    let s = nra::solve(nodes, constraints, lo, hi, limit, tolerance, point.len());
     write_solved(s, stop, exact, residual, halvings, count, point)
 }

@@ -103,7 +103,7 @@ fn main() {
     // One byte more than the largest file has, so that no longer one is cut down to a legal length.
     let mut bytes = [0u8; 22817];
     let n = io::read_full(0, &mut bytes);
-    let s = nra::solve_file(&bytes[..n], 10_000, 1e-8);
+    let s = nra::solve_file(&bytes[..n], 10_000, 1e-8, 16);
     if s.refusal != 0 {
         print_refusal(s.refusal);
         return;

@@ -12,10 +12,11 @@ use Rattle.number.specs.Notation.{if_then_else_}
 use Rattle.record.specs.Refusal.{_or-else_, first}
 use Rattle.record.specs.RefusalLaws.{or-else-refused, or-else-none}
 use Rattle.tree.specs.Nodes.{nodesRefusal, nodesFit, listRefusal}
+use Rattle.tree.specs.Code.{listLargest}
 use Rattle.constraint.specs.Records.{recordsRefusal}
 use Rattle.constraint.specs.Starts.{startsOf}
 use Rattle.file.specs.File.{nodeCount, constraintCount, boundCount, constraintsFrom, boundsFrom, nodesOf, constraintsOf, boundsOf, isHeaded, isLaidOut, boundRefusal, refusal, isCounted, givenRefusal}
-use Rattle.file.specs.Code.{Laid, bodiesRefusal, bodiesStarts, fileStarts, givenStarts}
+use Rattle.file.specs.Code.{Laid, bodiesRefusal, bodiesStarts, fileStarts, givenLargest, givenStarts}
 use Rattle.file.specs.FileLaws.{nodes-fit, list-is, counted, given-fit}
 
 module _ (file : List ℕ) (n c : ℕ) (en : n ≡ nodeCount file) (ec : c ≡ constraintCount file) where
@@ -124,10 +125,14 @@ module _ (file old : List ℕ) where
     by-bodies l r a e s = (e ∙ simp (h, l), s ∙ simp (h, l))
 
 -- ---- records given
+pub given-largest : (nodes b : List ℕ) → isCounted nodes b ≡ true → listLargest nodes (length nodes / 16) ≡ givenLargest nodes b
+unfolding givenLargest if_then_else_
+given-largest nodes b e = simp e
+
 module _ (nodes b old : List ℕ) where
-  pub not-counted : isCounted nodes b ≡ false → (2 ≡ givenRefusal nodes b) × (old ≡ givenStarts nodes b old)
-  unfolding givenRefusal givenStarts if_then_else_
-  not-counted e = (simp e, simp e)
+  pub not-counted : isCounted nodes b ≡ false → (2 ≡ givenRefusal nodes b) × ((old ≡ givenStarts nodes b old) × (0 ≡ givenLargest nodes b))
+  unfolding givenRefusal givenStarts givenLargest if_then_else_
+  not-counted e = (simp e, (simp e, simp e))
 
   module _ (e : isCounted nodes b ≡ true) (r : ℕ) (el : r ≡ listRefusal nodes (length nodes / 16)) where
     abbrev fits : nodesFit (length nodes) (length nodes / 16) ≡ true

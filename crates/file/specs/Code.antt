@@ -8,6 +8,7 @@ use lib.ListN.{length}
 use Rattle.number.specs.Notation.{if_then_else_}
 use Rattle.record.specs.Refusal.{_or-else_, first}
 use Rattle.tree.specs.Nodes.{nodesRefusal}
+use Rattle.tree.specs.Code.{listLargest}
 use Rattle.constraint.specs.Records.{recordsRefusal}
 use Rattle.constraint.specs.Starts.{startsOf}
 use Rattle.file.specs.File.{nodeCount, constraintCount, boundCount, boundsFrom, nodesOf, constraintsOf, boundsOf, isHeaded, isLaidOut, boundRefusal, isCounted}
@@ -34,6 +35,10 @@ bodiesStarts file old =
 
 unfoldable pub fileStarts : List ℕ → List ℕ → List ℕ
 fileStarts file old = if isHeaded file && isLaidOut file then bodiesStarts file old else old
+
+-- the size of the largest tree of given nodes that pass
+unfoldable pub givenLargest : List ℕ → List ℕ → ℕ
+givenLargest nodes b = if isCounted nodes b then listLargest nodes (length nodes / 16) else 0
 
 unfoldable pub givenStarts : List ℕ → List ℕ → List ℕ → List ℕ
 givenStarts nodes b old =

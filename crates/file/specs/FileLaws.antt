@@ -15,11 +15,13 @@ use Rattle.record.specs.Refusal.{_unless_, first}
 use Rattle.record.specs.RefusalLaws.{is-refused, both, none-both, none-unless, none-of-each}
 use Rattle.tree.specs.Nodes.{nodesRefusal, nodesFit, listRefusal, Valid}
 use Rattle.tree.specs.NodeLaws.{list-valid}
+use Rattle.tree.specs.Code.{Within}
+use Rattle.tree.specs.SizeLaws.{list-within}
 use Rattle.constraint.specs.Records.{recordsRefusal}
 use Rattle.constraint.specs.Starts.{startsOf, Ready}
 use Rattle.constraint.specs.RecordLaws.{only-left, ready}
 use Rattle.file.specs.File.{nodeCount, constraintCount, boundCount, constraintsFrom, boundsFrom, nodesOf, constraintsOf, boundsOf, isHeaded, isLaidOut, boundAt, bounds, boundRefusal, refusal, Read, Refused, Accepted, readBy, left, readFile, isCounted, givenRefusal, readGiven}
-use Rattle.file.specs.Code.{Laid, bodiesStarts, fileStarts, givenStarts}
+use Rattle.file.specs.Code.{Laid, bodiesStarts, fileStarts, givenLargest, givenStarts}
 
 -- ---- laid out
 pub headed-long : (file : List ℕ) → isHeaded file ≡ true → 32 ≤ length file
@@ -155,6 +157,12 @@ module _ (nodes b : List ℕ) (e : givenRefusal nodes b ≡ 0) where
 
   pub given-valid : Valid nodes (length nodes / 16)
   given-valid = list-valid nodes (length nodes / 16) (list-is nodes (length nodes / 16) (given-fit nodes (counted nodes b (passed-given .0) .0)) ∙ passed-given .1)
+
+  pub given-within : {m : ℕ} → m ≡ givenLargest nodes b → Within nodes (length nodes / 16) m
+  unfolding givenLargest if_then_else_
+  given-within q =
+      list-within nodes (length nodes / 16) (list-is nodes (length nodes / 16) (given-fit nodes (counted nodes b (passed-given .0) .0)) ∙ passed-given .1)
+      (q ∙ rw (passed-given .0))
 
   pub some-given : 0 < length b / 24
   some-given = only-left (length nodes / 16) b (length b / 24) (passed-given .2) .0

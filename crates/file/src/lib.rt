@@ -1,13 +1,14 @@
 // The house file (document 01, "The file"): its tests, and what an accepted file says.
+use interval::Boxes;
 use interval::Interval;
 use tree::Tested;
 ghost use mathlib.Core.Path.{_≡_};
 ghost use Prim.Native.Nat.{_+_, _*_, _/_, _≤_};
 ghost use lib.ListN.{length};
 ghost use Rattle.record.specs.Refusal.{first};
-ghost use Rattle.tree.specs.Code.{Within};
-ghost use Rattle.file.specs.File.{nodeCount, constraintCount, boundCount, nodesOf, constraintsOf, boundsOf, isHeaded, isLaidOut, boundAt, boundRefusal, refusal, readFile, givenRefusal};
-ghost use Rattle.file.specs.Code.{Laid, bodiesRefusal, bodiesStarts, fileStarts, givenStarts};
+ghost use Rattle.interval.specs.Boxes.{boxesOf};
+ghost use Rattle.file.specs.File.{nodeCount, constraintCount, boundCount, nodesOf, constraintsOf, boundsOf, isHeaded, isLaidOut, boundAt, bounds, boundRefusal, refusal, readFile, givenRefusal, readGiven};
+ghost use Rattle.file.specs.Code.{Laid, bodiesRefusal, bodiesStarts, fileStarts, givenLargest, givenStarts};
 ghost use Rattle.file.specs.Answer.{answered};
 ghost use Rattle.constraint.specs.Constraint.{numVars};
 ghost use Rattle.record.specs.Views.{old, final};
@@ -106,6 +107,28 @@ pub fn bound_in(bounds: &[u8], k: usize) -> Interval
     )
 }
 
+// The bounds of a file that is laid out, as boxes.
+pub fn file_bounds(file: &[u8]) -> Boxes
+    requires { ⌜ Laid (now file) ⌝ }
+    ensures { λ r. ⌜ (r .count ≡ boundCount (old file)) × (boxesOf r ≡ bounds (boundsOf (old file)) (boundCount (old file))) ⌝ }
+{
+    let n = bound_count(file);
+    let bytes = bounds_of(file);
+    let mut out = Boxes {
+        lo: [0.0; 16],
+        hi: [0.0; 16],
+        count: n,
+    };
+    let mut i: usize = 0;
+    while i < n {
+        let v = bound_in(bytes, i);
+        out.lo[i] = v.lo;
+        out.hi[i] = v.hi;
+        i += 1;
+    }
+    out
+}
+
 // Each of n bounds: 6.
 fn test_bounds(bounds: &[u8], n: usize) -> u8
     requires { ⌜ 16 * n ≤ length (now bounds) ⌝ }
@@ -162,7 +185,7 @@ pub fn test_sized(nodes: &[u8], constraints: &[u8], starts: &mut [usize; 256]) -
     requires { ⌜ length (now starts) ≡ 256 ⌝ }
     ensures { λ r. ⌜ r .refusal ≡ givenRefusal (old nodes) (old constraints) ⌝ }
     ensures { λ _. ⌜ final starts ≡ givenStarts (old nodes) (old constraints) (old starts) ⌝ }
-    ensures { λ r. ⌜ (r .refusal ≡ 0 → Within (old nodes) (length (old nodes) / 16) (r .largest)) ⌝ }
+    ensures { λ r. ⌜ r .largest ≡ givenLargest (old nodes) (old constraints) ⌝ }
 {
     let x = nodes.len();
     let y = constraints.len();
@@ -211,7 +234,7 @@ pub fn read_given(nodes: &[u8], constraints: &[u8]) -> u8
     test_given(nodes, constraints, &mut starts)
 }
 
-// A number of an accepted file, or its refusal.
+// A number of an accepted file, or of accepted records; or their refusal.
 pub enum Answer {
     Refused(u8),
     Value(u64),
@@ -228,5 +251,19 @@ pub fn num_vars(file: &[u8]) -> Answer
     }
     let last = constraint_count(file) - 1;
     let v = constraint::num_vars(nodes_of(file), constraints_of(file), &starts, last);
+    Answer::Value(v as u64)
+}
+
+// The same of records.
+pub fn num_vars_given(nodes: &[u8], constraints: &[u8]) -> Answer
+    ensures { λ r. ⌜ r ≡ answered numVars (readGiven (old nodes) (old constraints)) ⌝ }
+{
+    let mut starts = [0usize; 256];
+    let r = test_given(nodes, constraints, &mut starts);
+    if r != 0 {
+        return Answer::Refused(r);
+    }
+    let last = constraints.len() / 24 - 1;
+    let v = constraint::num_vars(nodes, constraints, &starts, last);
     Answer::Value(v as u64)
 }

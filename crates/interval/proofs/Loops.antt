@@ -3,33 +3,20 @@ use Prim.Native.Nat.{ℕ, zero, suc, _+_, _-_, _<_, _≤_}
 use mathlib.Core.Path.{_≡_, refl, sym, ap, _∙_}
 use mathlib.Core.Bool.{Bool, true, false, _&&_, _||_}
 use mathlib.Core.List.{List, [], _∷_, _++_}
-use native.Mathlib.Nat.{le-antisymm, not-suc-le-zero, le-of-suc-le-suc}
+use native.Mathlib.Nat.{not-suc-le-zero, le-of-suc-le-suc}
 use native.Mathlib.Numerals.{add-one}
 use native.Mathlib.Omega.{arith}
 use lib.Ieee.{Float, nan, binary64}
 use lib.ListN.{length, getD, set, take, drop, replicate, drop-of-length-le}
-use lib.Seq.{length-take-le, take-suc, take-suc-set, take-all, drop-cons, set-at, append-snoc}
+use lib.Seq.{length-take-le, take-suc, take-all, drop-cons, set-at, append-snoc}
 use Rattle.number.specs.Sound.{sound}
 use Rattle.number.specs.Notation.{if_then_else_, _≺_, whole}
 use Rattle.interval.specs.Interval.{_‥_, isEmpty, width, midpoint}
-use Rattle.interval.specs.Boxes.{intervals, missing, starting, midpoints, allBelow, widestFrom, widest, padded, anyEmpty, allSound}
-use Rattle.interval.specs.BoxLaws.{intervals-at, intervals-length, first-at, first-length, first-set, starting-more, midpoints-length}
+use Rattle.interval.specs.Boxes.{intervals, missing, midpoints, allBelow, widestFrom, widest, padded, anyEmpty, allSound}
+use Rattle.interval.specs.BoxLaws.{intervals-at, intervals-length, first-at, first-length, midpoints-length}
 use Rattle.interval.specs.declared.Interval.{Interval}
 
 module _ (n i : ℕ) (lo hi : List Float) (p : length lo ≡ 16) (q : length hi ≡ 16) (h : n ≤ 16) where
-  -- box i is written
-  pub starting-next : (bounds : List Interval) (v : Interval) → i < n → take i (intervals (take n lo) (take n hi)) ≡ starting i bounds → v ≡ getD bounds i missing
-      → take (i + 1) (intervals (take n (set lo i (v .lo))) (take n (set hi i (v .hi)))) ≡ starting (i + 1) bounds
-  starting-next bounds v l e w =
-      let X = intervals (take n lo) (take n hi) in
-      rw (first-set n lo hi i (v .lo) (v .hi) l, add-one i)
-      (take-suc-set X i v (omega (arith, first-length n lo hi (omega arith) (q ∙ sym p))) ∙ simp (e, w) (sym (starting-more i bounds)))
-
-  pub starting-done : (m : ℕ) (bounds : List Interval) → n ≡ m → i ≤ m → m ≤ i → take i (intervals (take n lo) (take n hi)) ≡ starting i bounds → intervals (take n lo) (take n hi) ≡ starting m bounds
-  starting-done m bounds c a b e =
-      sym (take-all i (intervals (take n lo) (take n hi)) (omega (arith, first-length n lo hi (omega arith) (q ∙ sym p))))
-      ∙ e ∙ ap (λ (k : ℕ). starting k bounds) (le-antisymm a b)
-
   -- box i is read
   rest : i < n → drop i (intervals (take n lo) (take n hi)) ≡ (getD lo i nan ‥ getD hi i nan) ∷ drop (i + 1) (intervals (take n lo) (take n hi))
   rest l =

@@ -1,14 +1,18 @@
 -- Laws of two lists of ends, and of the starting boxes. Assumes nothing.
 use Prim.Native.Nat.{ℕ, zero, suc, _<_, _≤_}
 use mathlib.Core.Path.{_≡_, refl, sym, ap, _∙_}
+use mathlib.Core.Bool.{true}
 use mathlib.Core.List.{List, [], _∷_, _++_}
 use native.Mathlib.Nat.{le-of-suc-le-suc, not-suc-le-zero}
 use native.Mathlib.Omega.{arith}
+use borrow.Author.Tests.{eqb-true, leb-true}
+use lib.Dec.{leb, eqb}
 use lib.ListN.{length, getD, set, take}
 use lib.Seq.{length-take-le, take-set-lt, getD-take, take-at}
 use lib.Ieee.{Float, nan}
 use Rattle.interval.specs.Interval.{_‥_, midpoint}
-use Rattle.interval.specs.Boxes.{intervals, boxesOf, missing, starting, midpoints, padded}
+use Rattle.record.specs.RefusalLaws.{both}
+use Rattle.interval.specs.Boxes.{intervals, lows, highs, boxesOf, missing, starting, midpoints, padded, allSound, arePaired, areBoxes}
 use Rattle.interval.specs.declared.Boxes.{Boxes}
 use Rattle.interval.specs.declared.Interval.{Interval}
 
@@ -46,6 +50,38 @@ intervals-take (suc n) [] hi = refl
 intervals-take (suc n) (a ∷ lo) [] = refl
 intervals-take (suc n) (a ∷ lo) (b ∷ hi) = ap (λ (r : List Interval). (a ‥ b) ∷ r) (intervals-take n lo hi)
 
+-- the ends of boxes, as boxes again
+pub of-ends : (is : List Interval) → intervals (lows is) (highs is) ≡ is
+unfolding intervals
+of-ends [] = refl
+of-ends (i ∷ is) = ap (λ (r : List Interval). i ∷ r) (of-ends is)
+
+pub lows-length : (is : List Interval) → length (lows is) ≡ length is
+lows-length [] = refl
+lows-length (i ∷ is) = ap suc (lows-length is)
+
+pub highs-length : (is : List Interval) → length (highs is) ≡ length is
+highs-length [] = refl
+highs-length (i ∷ is) = ap suc (highs-length is)
+
+-- two lists that are paired, and those that are boxes
+module _ (lo hi : List Float) where
+  pub as-many : arePaired lo hi ≡ true → length hi ≡ length lo
+  unfolding arePaired
+  as-many e = sym (eqb-true _ _ (both (eqb (length lo) (length hi)) (leb (length lo) 16) e .0))
+
+  pub few : arePaired lo hi ≡ true → length lo ≤ 16
+  unfolding arePaired
+  few e = leb-true _ _ (both (eqb (length lo) (length hi)) (leb (length lo) 16) e .1)
+
+  pub boxes-paired : areBoxes lo hi ≡ true → arePaired lo hi ≡ true
+  unfolding areBoxes
+  boxes-paired e = both (arePaired lo hi) (allSound (intervals lo hi)) e .0
+
+  pub boxes-all-sound : areBoxes lo hi ≡ true → allSound (intervals lo hi) ≡ true
+  unfolding areBoxes
+  boxes-all-sound e = both (arePaired lo hi) (allSound (intervals lo hi)) e .1
+
 -- the first n of each
 pub first-length : (n : ℕ) (lo hi : List Float) → n ≤ length lo → length hi ≡ length lo → length (intervals (take n lo) (take n hi)) ≡ n
 first-length n lo hi h e =
@@ -79,6 +115,9 @@ pub starting-all : (bounds : List Interval) → starting (length bounds) bounds 
 unfolding starting
 starting-all [] = refl
 starting-all (b ∷ bounds) = ap (λ (r : List Interval). b ∷ r) (starting-all bounds)
+
+pub all-there : (lo hi : List Float) → arePaired lo hi ≡ true → {b : List Interval} → b ≡ starting (length lo) (intervals lo hi) → b ≡ intervals lo hi
+all-there lo hi e q = q ∙ ap (λ (n : ℕ). starting n (intervals lo hi)) (sym (intervals-length lo hi (as-many lo hi e))) ∙ starting-all (intervals lo hi)
 
 -- ---- boxes by value
 pub boxes-length : (b : Boxes) → length (b .lo) ≡ 16 → length (b .hi) ≡ 16 → b .count ≤ 16 → length (boxesOf b) ≡ b .count

@@ -56,6 +56,15 @@ intervals [] hs = []
 intervals (l ∷ ls) [] = []
 intervals (l ∷ ls) (h ∷ hs) = (l ‥ h) ∷ intervals ls hs
 
+-- and the two lists of boxes
+abbrev pub lows : List Interval → List Float
+lows [] = []
+lows (i ∷ is) = i .lo ∷ lows is
+
+abbrev pub highs : List Interval → List Float
+highs [] = []
+highs (i ∷ is) = i .hi ∷ highs is
+
 -- the first `count` of each
 unfoldable pub boxesOf : Boxes → List Interval
 boxesOf b = intervals (take (b .count) (b .lo)) (take (b .count) (b .hi))
@@ -65,5 +74,8 @@ unfoldable pub allSound : List Interval → Bool
 allSound [] = true
 allSound (i ∷ is) = sound binary64 (i .lo) (i .hi) && allSound is
 
+unfoldable pub arePaired : List Float → List Float → Bool
+arePaired lo hi = eqb (length lo) (length hi) && leb (length lo) 16
+
 unfoldable pub areBoxes : List Float → List Float → Bool
-areBoxes lo hi = eqb (length lo) (length hi) && leb (length lo) 16 && allSound (intervals lo hi)
+areBoxes lo hi = arePaired lo hi && allSound (intervals lo hi)

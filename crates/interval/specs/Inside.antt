@@ -1,7 +1,7 @@
 -- An interval inside another: no lo lowered, no hi raised, not empty (an interval is empty unless lo <= hi). What the operations do to
 -- that, and to a sound interval. Assumes nothing.
 use Prim.Native.Nat.{ℕ, zero, suc}
-use mathlib.Core.Bool.{Bool, not, _||_}
+use mathlib.Core.Bool.{not, _||_}
 use mathlib.Core.List.{List, [], _∷_}
 use lib.Dec.{T}
 use lib.ListN.{getD, set}
@@ -10,12 +10,12 @@ use lib.Ieee.Fits.{add-fits, sub-fits, mul-fits, div-fits, nan-fits, inf-fits, o
 use Rattle.number.specs.Notation.{_≺_, _≼_}
 use Rattle.number.specs.Order.{le-refl, le-trans, le-left, le-right, not-lt→le}
 use Rattle.number.specs.MaxMin.{maxOf, minOf, max-laws, min-laws, kept}
-use Rattle.number.specs.Sound.{sound, sound-lo, sound-hi, sound-le, part-sound}
+use Rattle.number.specs.Sound.{sound, sound-held, sound-lo, sound-hi, sound-le, part-sound}
 use Rattle.number.specs.Halving.{mid, lo≤mid, mid≤hi}
 use Rattle.maths.specs.Exp.{expOf, expAt, scaled}
 use Rattle.maths.specs.Ln.{lnOf, lnFrom, lnAt}
 use Rattle.interval.specs.Interval.{isEmpty, midpoint, contains, split, intersect, hull, exp, nothing, ln, plus, minus}
-use Rattle.interval.specs.Boxes.{missing, intervals, allSound}
+use Rattle.interval.specs.Boxes.{missing, allSound}
 use Rattle.interval.specs.Choices.{either, neither}
 use Rattle.interval.specs.declared.Interval.{Interval}
 
@@ -39,12 +39,8 @@ pub record Inside (old new : Interval) : Type 0 where
   pub ordered : T (new .lo ≼ new .hi)
 
 -- a sound range (document 01, "The file")
-abbrev pub isSound : Interval → Bool
-isSound i = sound binary64 (i .lo) (i .hi)
-
-pub record Sound (i : Interval) : Type 0 where
-  pub range : T (isSound i)
-  pub ends : Ends i
+abbrev pub Sound : Interval → Type 0
+Sound i = T (sound binary64 (i .lo) (i .hi))
 
 -- ---- one inside another
 pub inside-refl : (i : Interval) → T (i .lo ≼ i .hi) → Inside i i
@@ -53,11 +49,14 @@ inside-refl i h = record { lo = le-refl (i .lo) (le-left (i .lo) (i .hi) h); hi 
 pub inside-trans : (i j k : Interval) → Inside i j → Inside j k → Inside i k
 inside-trans i j k a b = record { lo = le-trans (i .lo) (j .lo) (k .lo) (a .lo) (b .lo); hi = le-trans (k .hi) (j .hi) (i .hi) (b .hi) (a .hi); ordered = b .ordered }
 
+pub sound-ends : (i : Interval) → Sound i → Ends i
+sound-ends i s = let h = sound-held binary64 (i .lo) (i .hi) s in record { lo = h .0; hi = h .1 }
+
 pub sound-proper : (i : Interval) → Sound i → Proper i
-sound-proper i s = record { ordered = sound-le binary64 (i .lo) (i .hi) (s .range); ends = s .ends }
+sound-proper i s = record { ordered = sound-le binary64 (i .lo) (i .hi) s; ends = sound-ends i s }
 
 pub inside-sound : (i j : Interval) → Inside i j → Ends j → Sound i → Sound j
-inside-sound i j a e s = record { range = part-sound binary64 (i .lo) (j .lo) (j .hi) (i .hi) (s .range) (a .lo) (a .ordered) (a .hi); ends = e }
+inside-sound i j a e s = part-sound binary64 (i .lo) (j .lo) (j .hi) (i .hi) s (e .lo) (e .hi) (a .lo) (a .ordered) (a .hi)
 
 -- ---- the midpoint and the halves of a sound interval
 pub midpoint-held : (i : Interval) → Held (midpoint i)
@@ -66,13 +65,13 @@ midpoint-held i = div-fits binary64 _ _
 
 module _ (i : Interval) (s : Sound i) where
   above : T (i .lo ≼ mid binary64 (i .lo) (i .hi))
-  above = lo≤mid binary64 (i .lo) (i .hi) (s .ends .lo) (sound-lo binary64 (i .lo) (i .hi) (s .range)) (sound-hi binary64 (i .lo) (i .hi) (s .range)) (sound-le binary64 (i .lo) (i .hi) (s .range))
+  above = lo≤mid binary64 (i .lo) (i .hi) (sound-ends i s .lo) (sound-lo binary64 (i .lo) (i .hi) s) (sound-hi binary64 (i .lo) (i .hi) s) (sound-le binary64 (i .lo) (i .hi) s)
 
   below : T (mid binary64 (i .lo) (i .hi) ≼ i .hi)
-  below = mid≤hi binary64 (i .lo) (i .hi) (s .ends .hi) (sound-lo binary64 (i .lo) (i .hi) (s .range)) (sound-hi binary64 (i .lo) (i .hi) (s .range)) (sound-le binary64 (i .lo) (i .hi) (s .range))
+  below = mid≤hi binary64 (i .lo) (i .hi) (sound-ends i s .hi) (sound-lo binary64 (i .lo) (i .hi) s) (sound-hi binary64 (i .lo) (i .hi) s) (sound-le binary64 (i .lo) (i .hi) s)
 
   self : Inside i i
-  self = inside-refl i (sound-le binary64 (i .lo) (i .hi) (s .range))
+  self = inside-refl i (sound-le binary64 (i .lo) (i .hi) s)
 
   pub midpoint-inside : T (contains i (midpoint i))
   unfolding contains midpoint ofInt
@@ -87,10 +86,10 @@ module _ (i : Interval) (s : Sound i) where
   upper-inside = record { lo = above; hi = self .hi; ordered = below }
 
   pub lower-sound : Sound (split i .lower)
-  lower-sound = inside-sound i (split i .lower) lower-inside (unfold split in record { lo = s .ends .lo; hi = midpoint-held i }) s
+  lower-sound = inside-sound i (split i .lower) lower-inside (unfold split in record { lo = sound-ends i s .lo; hi = midpoint-held i }) s
 
   pub upper-sound : Sound (split i .upper)
-  upper-sound = inside-sound i (split i .upper) upper-inside (unfold split in record { lo = midpoint-held i; hi = s .ends .hi }) s
+  upper-sound = inside-sound i (split i .upper) upper-inside (unfold split in record { lo = midpoint-held i; hi = sound-ends i s .hi }) s
 
 -- ---- an interval that is not empty
 pub not-empty : (i : Interval) → T (not (isEmpty i)) → T (i .lo ≼ i .hi)
@@ -232,18 +231,8 @@ set-proper (x ∷ xs) (suc i) new g p = (g .0, set-proper xs i new (g .1) p)
 pub set-narrower : (b : List Interval) (i : ℕ) (new : Interval) → Each Proper b → Inside (getD b i missing) new → Ends new → Narrower b (set b i new)
 set-narrower b i new g p e = record { inside = set-inside b i new g p; proper = set-proper b i new g (record { ordered = p .ordered; ends = e }) }
 
--- ---- boxes that a call takes, every end an f64
-abbrev pub AllHeld : List Float → Type 0
-AllHeld [] = Unit {0}
-AllHeld (x ∷ xs) = Held x × AllHeld xs
-
-pub ends-held : (lo hi : List Float) → AllHeld lo → AllHeld hi → Each Ends (intervals lo hi)
-unfolding intervals
-ends-held [] hi p q = tt
-ends-held (l ∷ lo) [] p q = tt
-ends-held (l ∷ lo) (h ∷ hi) p q = (record { lo = p .0; hi = q .0 }, ends-held lo hi (p .1) (q .1))
-
-pub boxes-sound : (b : List Interval) → Each Ends b → T (allSound b) → Each Sound b
+-- ---- boxes that a call takes
+pub boxes-sound : (b : List Interval) → T (allSound b) → Each Sound b
 unfolding allSound
-boxes-sound [] f t = tt
-boxes-sound (i ∷ is) f t = (record { range = and-l (isSound i) (allSound is) t; ends = f .0 }, boxes-sound is (f .1) (and-r (isSound i) (allSound is) t))
+boxes-sound [] t = tt
+boxes-sound (i ∷ is) t = (and-l (sound binary64 (i .lo) (i .hi)) (allSound is) t, boxes-sound is (and-r (sound binary64 (i .lo) (i .hi)) (allSound is) t))

@@ -1,7 +1,10 @@
 pub mod Interval
 pub mod Boxes
+pub mod Domain
 pub mod Views
 pub mod BoxLaws
+pub mod PlacesLaws
+pub mod DomainLaws
 pub mod Choices
 pub mod Inside
 pub mod Computing

@@ -8,8 +8,12 @@ ghost use lib.Ieee.Scale.{finite};
 ghost use Rattle.maths.specs.Exp.{expOf};
 ghost use Rattle.maths.specs.Ln.{lnOf};
 ghost use Rattle.interval.specs.Interval.{_‥_, isEmpty, width, midpoint, contains, split, intersect, hull, exp, hasLn, ln, plus, minus, moves};
-ghost use Rattle.interval.specs.Boxes.{boxesOf, missing, starting, midpoints, allBelow, widest, padded, anyEmpty, allSound, areBoxes};
+ghost use Rattle.interval.specs.Boxes.{boxesOf, lows, highs, missing, starting, midpoints, allBelow, widest, padded, anyEmpty, allSound, arePaired, areBoxes};
+ghost use Rattle.interval.specs.Domain.{domainRefusal, domainNew, domainIsEmpty};
 ghost use Rattle.interval.specs.Views.{before};
+ghost use Rattle.record.specs.Leaving.{_leaving_};
+ghost use Rattle.record.specs.Views.{old, final};
+ghost use lib.Seq.{paste};
 
 #[repr(C)]
 pub struct Interval {
@@ -208,17 +212,36 @@ fn all_sound(lo: &[f64], hi: &[f64]) -> bool
     true
 }
 
-// Whether a caller's two lists are boxes: as many ends of each kind, at most 16, and each box sound.
-pub fn are_boxes(lo: &[f64], hi: &[f64]) -> bool
-    ensures { λ r. ⌜ r ≡ areBoxes (now (lo .entry)) (now (hi .entry)) ⌝ }
+// Whether two lists have as many ends of each kind, at most 16.
+fn are_paired(lo: &[f64], hi: &[f64]) -> bool
+    ensures { λ r. ⌜ r ≡ arePaired (old lo) (old hi) ⌝ }
 {
-    if lo.len() != hi.len() {
-        return false;
+    (lo.len() == hi.len()) & (lo.len() <= 16)
+}
+
+// Whether a caller's two lists are boxes: paired, and each box sound.
+pub fn are_boxes(lo: &[f64], hi: &[f64]) -> bool
+    ensures { λ r. ⌜ r ≡ areBoxes (old lo) (old hi) ⌝ }
+{
+    if are_paired(lo, hi) {
+        return all_sound(lo, hi);
     }
-    if 16 < lo.len() {
-        return false;
+    false
+}
+
+// Writes the first n of the bounds, a missing one being [-10, 10], to the first places of two lists.
+fn write_starting(lo: &[f64], hi: &[f64], n: usize, out_lo: &mut [f64], out_hi: &mut [f64])
+    requires { ⌜ (length (now hi) ≡ length (now lo)) × (n ≤ length (now «out_lo»)) × (n ≤ length (now «out_hi»)) ⌝ }
+    ensures { λ _. ⌜ final «out_lo» ≡ paste (old «out_lo») 0 (lows (starting n (before lo hi))) n ⌝ }
+    ensures { λ _. ⌜ final «out_hi» ≡ paste (old «out_hi») 0 (highs (starting n (before lo hi))) n ⌝ }
+{
+    let mut i: usize = 0;
+    while i < n {
+        let v = box_at(lo, hi, i);
+        out_lo[i] = v.lo;
+        out_hi[i] = v.hi;
+        i += 1;
     }
-    all_sound(lo, hi)
 }
 
 // A list of at most 16 boxes by value (IntervalDomain of interval.rs): the first `count` ends of each kind.
@@ -234,19 +257,14 @@ impl Boxes {
         requires { ⌜ (length (now hi) ≡ length (now lo)) × (n ≤ 16) ⌝ }
         ensures { λ r. ⌜ (r .count ≡ n) × (boxesOf r ≡ starting n (before lo hi)) ⌝ }
     {
-        let mut out = Boxes {
-            lo: [0.0; 16],
-            hi: [0.0; 16],
+        let mut low = [0.0; 16];
+        let mut high = [0.0; 16];
+        write_starting(lo, hi, n, &mut low, &mut high);
+        Boxes {
+            lo: low,
+            hi: high,
             count: n,
-        };
-        let mut i: usize = 0;
-        while i < n {
-            let v = box_at(lo, hi, i);
-            out.lo[i] = v.lo;
-            out.hi[i] = v.hi;
-            i += 1;
         }
-        out
     }
 
     // Box i; one beyond the list is [-10, 10].
@@ -271,24 +289,15 @@ impl Boxes {
         out
     }
 
-    // The first n of these bounds, a missing one being [-10, 10].
+    // The first n of these bounds.
     pub fn starting(self, n: usize) -> Boxes
         requires { ⌜ (self .count ≤ 16) × (n ≤ 16) ⌝ }
         ensures { λ r. ⌜ (r .count ≡ n) × (boxesOf r ≡ starting n (boxesOf self)) ⌝ }
     {
-        let mut out = Boxes {
-            lo: [0.0; 16],
-            hi: [0.0; 16],
-            count: n,
-        };
-        let mut i: usize = 0;
-        while i < n {
-            let v = self.at(i);
-            out.lo[i] = v.lo;
-            out.hi[i] = v.hi;
-            i += 1;
-        }
-        out
+        let count = self.count;
+        let lo = self.lo;
+        let hi = self.hi;
+        Self::new(&lo[..count], &hi[..count], n)
     }
 
     // The midpoint of each box.
@@ -373,4 +382,43 @@ impl Boxes {
         let hi = self.hi;
         all_sound(&lo[..count], &hi[..count])
     }
+}
+
+// ---- the public calls
+
+fn domain_refusal(lo: &[f64], hi: &[f64], n: usize, room: usize, other: usize) -> u8
+    ensures { λ r. ⌜ r ≡ domainRefusal (old lo) (old hi) n room other ⌝ }
+{
+    let are = are_boxes(lo, hi);
+    if are & (n <= 16) {
+        if (n <= room) & (n <= other) {
+            return 0;
+        }
+        return 10;
+    }
+    9
+}
+
+// IntervalDomain::new. A refusal writes nothing.
+pub fn domain_new(lo: &[f64], hi: &[f64], n: usize, out_lo: &mut [f64], out_hi: &mut [f64]) -> u8
+    ensures { λ r. ⌜ (r leaving (final «out_lo», final «out_hi»)) ≡ domainNew (old lo) (old hi) n (old «out_lo») (old «out_hi») ⌝ }
+{
+    let r = domain_refusal(lo, hi, n, out_lo.len(), out_hi.len());
+    if r != 0 {
+        return r;
+    }
+    write_starting(lo, hi, n, out_lo, out_hi);
+    0
+}
+
+// IntervalDomain::is_empty.
+pub fn domain_is_empty(lo: &[f64], hi: &[f64], out: &mut bool) -> u8
+    ensures { λ r. ⌜ (r leaving final out) ≡ domainIsEmpty (old lo) (old hi) (old out) ⌝ }
+{
+    if are_paired(lo, hi) {
+        let boxes = Boxes::new(lo, hi, lo.len());
+        *out = boxes.is_empty();
+        return 0;
+    }
+    9
 }

@@ -10,11 +10,9 @@ use lib.Seq.{set-getD, set-out, take-all}
 use Rattle.interval.specs.declared.Interval.{Interval}
 use Rattle.interval.specs.declared.Boxes.{Boxes}
 use Rattle.interval.specs.Interval.{_‥_}
-use Rattle.interval.specs.Boxes.{intervals}
-use Rattle.interval.specs.BoxLaws.{intervals-at, intervals-length}
-use Rattle.narrow.specs.Given.{lows, highs}
+use Rattle.interval.specs.Boxes.{intervals, lows, highs}
+use Rattle.interval.specs.BoxLaws.{intervals-at, intervals-length, lows-length, highs-length}
 use Rattle.lent.specs.Copies.{over, blankOf, putOf, loadOf}
-use Rattle.lent.specs.Ends.{lows-length, highs-length}
 
 -- ---- one list over another
 module _ {A : Type 0} where

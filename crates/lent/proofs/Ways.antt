@@ -9,19 +9,17 @@ use lib.Dec.{T, leb}
 use lib.ListN.{length, take}
 use Rattle.settings.specs.declared.Settings.{Settings}
 use Rattle.interval.specs.declared.Interval.{Interval}
-use Rattle.interval.specs.Boxes.{intervals, boxesOf, allSound}
-use Rattle.interval.specs.BoxLaws.{intervals-length, intervals-take}
+use Rattle.interval.specs.Boxes.{intervals, lows, highs, boxesOf, allSound}
+use Rattle.interval.specs.BoxLaws.{intervals-length, intervals-take, of-ends, lows-length, highs-length}
 use Rattle.record.specs.Leaving.{Leaving, _leaving_}
 use Rattle.constraint.specs.Constraint.{Constraint}
 use Rattle.file.specs.File.{Read, readGiven}
 use Rattle.narrow.specs.declared.Propagated.{Propagated}
 use Rattle.narrow.specs.Narrowing.{propagate}
-use Rattle.narrow.specs.GivenLaws.{of-ends}
-use Rattle.narrow.specs.Given.{lows, highs, tested, answered as answeredBy}
+use Rattle.narrow.specs.Given.{tested, answered as answeredBy}
 use Rattle.lent.specs.Lent.{propagateLent}
 use Rattle.lent.specs.Copies.{blankOf, over, loadOf, Narrows, isRefusal}
 use Rattle.lent.specs.declared.Narrowed.{Narrowed}
-use Rattle.lent.specs.Ends.{lows-length, highs-length}
 use Rattle.lent.proofs.Copying.{taken, over-takes}
 
 -- what the narrowing of b does, once the records are read

@@ -9,12 +9,12 @@ use lib.ListN.{length, set, replicate}
 use Rattle.settings.specs.declared.Settings.{Settings}
 use Rattle.interval.specs.declared.Interval.{Interval}
 use Rattle.interval.specs.declared.Boxes.{Boxes}
-use Rattle.interval.specs.Boxes.{boxesOf, allSound}
+use Rattle.interval.specs.Boxes.{lows, highs, boxesOf, allSound}
 use Rattle.record.specs.Leaving.{_leaving_}
 use Rattle.file.specs.File.{readGiven}
 use Rattle.narrow.specs.declared.Propagated.{Propagated}
 use Rattle.narrow.specs.Narrowing.{propagate}
-use Rattle.narrow.specs.Given.{lows, highs, tested, answered}
+use Rattle.narrow.specs.Given.{tested, answered}
 use Rattle.lent.specs.declared.Narrowed.{Narrowed}
 
 -- the second list with its first elements replaced by those of the first

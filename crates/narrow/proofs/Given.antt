@@ -1,30 +1,24 @@
 -- Two lists of ends that were tested, and what the narrowing leaves in them. Assumes nothing.
 use Prim.Native.Nat.{_≤_}
 use mathlib.Core.Path.{_≡_, refl, sym, ap, ap₂, _∙_}
-use mathlib.Core.Bool.{true, _&&_}
+use mathlib.Core.Bool.{true}
 use mathlib.Core.List.{List, [], _∷_}
 use native.Mathlib.Omega.{arith}
-use borrow.Author.Tests.{eqb-true, leb-true}
-use lib.Dec.{eqb, leb}
 use lib.Ieee.{Float}
 use lib.ListN.{length}
 use Rattle.settings.specs.declared.Settings.{Settings}
 use Rattle.settings.specs.Settings.{usual}
-use Rattle.interval.specs.Boxes.{intervals, allSound, areBoxes}
+use Rattle.interval.specs.Boxes.{intervals, lows, highs, areBoxes}
+use Rattle.interval.specs.BoxLaws.{as-many, few, boxes-paired}
 use Rattle.record.specs.Leaving.{_leaving_}
-use Rattle.record.specs.RefusalLaws.{both}
 use Rattle.constraint.specs.Constraint.{Constraint}
 use Rattle.narrow.specs.declared.PropResult.{PropResult}
 use Rattle.narrow.specs.declared.Propagated.the-variants.{Answered}
 use Rattle.narrow.specs.Narrowing.{propagate}
-use Rattle.narrow.specs.Given.{lows, highs, ends, answered}
+use Rattle.narrow.specs.Given.{ends, answered}
 
 pub boxes-told : (lo hi : List Float) → areBoxes lo hi ≡ true → (length hi ≡ length lo) × (length lo ≤ 16)
-unfolding areBoxes
-boxes-told lo hi e =
-    let w = both (eqb (length lo) (length hi) && leb (length lo) 16) (allSound (intervals lo hi)) e in
-    let v = both (eqb (length lo) (length hi)) (leb (length lo) 16) (w .0) in
-    (sym (eqb-true (length lo) (length hi) (v .0)), leb-true (length lo) 16 (v .1))
+boxes-told lo hi e = let w = boxes-paired lo hi e in (as-many lo hi w, few lo hi w)
 
 lows-of : (lo hi : List Float) → length hi ≡ length lo → lows (intervals lo hi) ≡ lo
 unfolding intervals

@@ -1,8 +1,8 @@
 -- The ways out of a call on records and boxes that are given: what a function that tests them cites. Assumes nothing.
 use Prim.Native.Nat.{ℕ, _/_}
-use mathlib.Core.Path.{_≡_, refl, sym, ap, _∙_}
+use mathlib.Core.Path.{_≡_, sym, ap, _∙_}
 use mathlib.Core.Bool.{Bool, true, false}
-use mathlib.Core.List.{List, [], _∷_}
+use mathlib.Core.List.{List, []}
 use lib.ListN.{length}
 use Rattle.record.specs.Leaving.{Leaving, _leaving_}
 use Rattle.constraint.specs.Constraint.{Constraint}
@@ -10,15 +10,7 @@ use Rattle.file.specs.File.{left, Read, givenRefusal, readGiven}
 use Rattle.file.specs.FileLaws.{given-refused, given-is}
 use Rattle.narrow.specs.declared.Propagated.{Propagated}
 use Rattle.narrow.specs.declared.Propagated.the-variants.{Refused}
-use Rattle.interval.specs.declared.Interval.{Interval}
-use Rattle.interval.specs.Boxes.{intervals}
-use Rattle.narrow.specs.Given.{lows, highs, tested}
-
--- the ends of boxes, as boxes again
-pub of-ends : (is : List Interval) → intervals (lows is) (highs is) ≡ is
-unfolding intervals
-of-ends [] = refl
-of-ends (i ∷ is) = ap (λ (r : List Interval). i ∷ r) (of-ends is)
+use Rattle.narrow.specs.Given.{tested}
 
 module _ {B : Type 0} (nodes constraints : List ℕ) (b : B) (next : Constraint → Leaving Propagated B) where
   pub records-refused : (r : ℕ) (t : Bool) → r ≡ givenRefusal nodes constraints → (r ≡ 0 → ⊥) → (Refused r leaving b) ≡ tested (readGiven nodes constraints) t b next

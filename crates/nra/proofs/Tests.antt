@@ -1,23 +1,15 @@
--- The tests of a caller's limit and tolerance, and the bounds of a file, over plain values. Assumes nothing.
-use Prim.Native.Nat.{ℕ, _+_, _<_, _≤_}
-use mathlib.Core.Path.{_≡_, sym, ap, _∙_}
+-- The tests of a caller's limit and tolerance, and of the places for a point, over plain values. Assumes nothing.
+use Prim.Native.Nat.{ℕ, _<_, _≤_}
+use mathlib.Core.Path.{_≡_}
 use mathlib.Core.Bool.{true, false, not, _&&_}
-use mathlib.Core.List.{List}
-use native.Mathlib.Nat.{le-antisymm}
-use native.Mathlib.Numerals.{add-one}
 use native.Mathlib.Omega.{arith}
-use borrow.Author.Tests.{eqb-true, leb-true}
-use lib.Dec.{leb, eqb}
+use borrow.Author.Tests.{leb-true, le-leb, lt-leb}
+use lib.Dec.{leb}
 use lib.Ieee.{Float, ne, isNan}
-use lib.ListN.{length, set, take}
-use lib.Seq.{take-suc-set, take-all}
 use Rattle.number.specs.Order.{nan-test}
 use Rattle.record.specs.RefusalLaws.{both, none-unless}
-use Rattle.interval.specs.declared.Interval.{Interval}
-use Rattle.interval.specs.Boxes.{intervals, starting, allSound, areBoxes}
-use Rattle.interval.specs.BoxLaws.{intervals-length, first-length, first-set, starting-all}
-use Rattle.file.specs.File.{boundAt, bounds}
-use Rattle.nra.specs.Calls.{limitRefusal}
+use Rattle.constraint.specs.Constraint.{Constraint, numVars}
+use Rattle.nra.specs.Calls.{limitRefusal, roomRefusal}
 
 -- ---- 8
 module _ (limit : ℕ) (ε : Float) where
@@ -33,33 +25,12 @@ module _ (limit : ℕ) (ε : Float) where
   unfolding limitRefusal
   limit-few e = leb-true limit 1_000_000 (both (leb limit 1_000_000) (not (isNan ε)) (none-unless 7 (leb limit 1_000_000 && not (isNan ε)) e) .0)
 
--- ---- boxes
--- two lists that are boxes, by value
-module _ (lo hi : List Float) (e : areBoxes lo hi ≡ true) where
-  paired : (eqb (length lo) (length hi) ≡ true) × (leb (length lo) 16 ≡ true)
-  unfolding areBoxes
-  paired = both _ _ (both (eqb (length lo) (length hi) && leb (length lo) 16) (allSound (intervals lo hi)) e .0)
+-- ---- 10
+module _ (c : Constraint) (room : ℕ) {n : ℕ} (vars : n ≡ numVars c) where
+  pub no-room : room < n → roomRefusal c room ≡ 10
+  unfolding roomRefusal
+  no-room h = rw (lt-leb (numVars c) room (omega arith))
 
-  pub as-many : length hi ≡ length lo
-  as-many = sym (eqb-true _ _ (paired .0))
-
-  pub few : length lo ≤ 16
-  few = leb-true _ _ (paired .1)
-
-  pub all-there : {b : List Interval} → b ≡ starting (length lo) (intervals lo hi) → b ≡ intervals lo hi
-  all-there q = q ∙ ap (λ (n : ℕ). starting n (intervals lo hi)) (sym (intervals-length lo hi as-many)) ∙ starting-all (intervals lo hi)
-
--- ---- the bounds of a file
-module _ (n i : ℕ) (lo hi : List Float) (p : length lo ≡ 16) (q : length hi ≡ 16) (h : n ≤ 16) where
-  pub bounds-next : (b : List ℕ) (v : Interval) → i < n → take i (intervals (take n lo) (take n hi)) ≡ bounds b i → v ≡ boundAt b i
-      → take (i + 1) (intervals (take n (set lo i (v .lo))) (take n (set hi i (v .hi)))) ≡ bounds b (i + 1)
-  unfolding bounds
-  bounds-next b v l e w =
-      let X = intervals (take n lo) (take n hi) in
-      rw (first-set n lo hi i (v .lo) (v .hi) l, add-one i)
-      (take-suc-set X i v (omega (arith, first-length n lo hi (omega arith) (q ∙ sym p))) ∙ simp (e, w))
-
-  pub bounds-done : (m : ℕ) (b : List ℕ) → n ≡ m → i ≤ m → m ≤ i → take i (intervals (take n lo) (take n hi)) ≡ bounds b i → intervals (take n lo) (take n hi) ≡ bounds b m
-  bounds-done m b c a d e =
-      sym (take-all i (intervals (take n lo) (take n hi)) (omega (arith, first-length n lo hi (omega arith) (q ∙ sym p))))
-      ∙ e ∙ ap (bounds b) (le-antisymm a d)
+  pub is-room : n ≤ room → roomRefusal c room ≡ 0
+  unfolding roomRefusal
+  is-room h = rw (le-leb (numVars c) room (omega arith))

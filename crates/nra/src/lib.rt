@@ -20,11 +20,9 @@ ghost use Rattle.settings.specs.Settings.{usual};
 ghost use Rattle.interval.specs.Boxes.{boxesOf};
 ghost use Rattle.constraint.specs.Starts.{Ready};
 ghost use Rattle.constraint.specs.Views.{the};
-ghost use Rattle.file.specs.File.{boundsOf, boundCount, bounds};
-ghost use Rattle.file.specs.Code.{Laid};
 ghost use Rattle.point.specs.Check.{check};
 ghost use Rattle.nra.specs.Answers.{asked, solvedOf, triedIn};
-ghost use Rattle.nra.specs.Calls.{limitRefusal, solveFile, solveGiven};
+ghost use Rattle.nra.specs.Calls.{limitRefusal, answeredIn, solveFile, solveGiven};
 ghost use Rattle.nra.specs.Solver as Solver;
 ghost use Rattle.record.specs.Views.{old};
 
@@ -72,6 +70,7 @@ fn solve_boxes(
     requires { ⌜ Ready (now nodes) (now constraints) (task .root + 1) (now starts) ⌝ }
     requires { ⌜ (0 < boxes .count) × (boxes .count ≤ 16) × (limit ≤ 1_000_000) ⌝ }
     ensures { λ r. ⌜ r ≡ solvedOf (triedIn (task .settings) (asked nodes constraints task) limit (boxesOf boxes)) ⌝ }
+    ensures { λ r. ⌜ r .count ≤ boxes .count ⌝ }
 {
     let mut order = [0u16; 4096];
     let first = begin(nodes, constraints, starts, task, boxes, &mut order);
@@ -79,7 +78,7 @@ fn solve_boxes(
     answer_of(nodes, constraints, starts, task, limit, last, &mut order)
 }
 
-// In these bounds.
+// In these bounds, where there are places for a point: else 10.
 fn solve_in(
     nodes: &[u8],
     constraints: &[u8],
@@ -87,12 +86,17 @@ fn solve_in(
     task: Task,
     limit: usize,
     bounds: Boxes,
+    room: usize,
 ) -> Solved
     requires { ⌜ Ready (now nodes) (now constraints) (task .root + 1) (now starts) ⌝ }
     requires { ⌜ (bounds .count ≤ 16) × (limit ≤ 1_000_000) ⌝ }
-    ensures { λ r. ⌜ r ≡ solvedOf (Solver.solve (task .settings) (asked nodes constraints task) (boxesOf bounds) limit) ⌝ }
+    ensures { λ r. ⌜ r ≡ answeredIn (task .settings) (asked nodes constraints task) (boxesOf bounds) limit room ⌝ }
+    ensures { λ r. ⌜ r .count ≤ room ⌝ }
 {
     let n = constraint::num_vars(nodes, constraints, starts, task.root);
+    if room < n {
+        return refused(10);
+    }
     if n == 0 {
         return solve_empty(nodes, constraints, starts, task);
     }
@@ -111,31 +115,10 @@ fn limit_refusal(limit: usize, tolerance: f64) -> u8
     8
 }
 
-// The bounds of a file that is laid out.
-fn file_bounds(file: &[u8]) -> Boxes
-    requires { ⌜ Laid (now file) ⌝ }
-    ensures { λ r. ⌜ (r .count ≡ boundCount (old file)) × (boxesOf r ≡ bounds (boundsOf (old file)) (boundCount (old file))) ⌝ }
-{
-    let n = file::bound_count(file);
-    let bytes = file::bounds_of(file);
-    let mut out = Boxes {
-        lo: [0.0; 16],
-        hi: [0.0; 16],
-        count: n,
-    };
-    let mut i: usize = 0;
-    while i < n {
-        let v = file::bound_in(bytes, i);
-        out.lo[i] = v.lo;
-        out.hi[i] = v.hi;
-        i += 1;
-    }
-    out
-}
-
-// Solves a house file.
-pub fn solve_file(file: &[u8], limit: usize, tolerance: f64) -> Solved
-    ensures { λ r. ⌜ r ≡ solveFile usual (old file) limit tolerance ⌝ }
+// Solves a house file. `room` is how many places the caller has for the point.
+pub fn solve_file(file: &[u8], limit: usize, tolerance: f64, room: usize) -> Solved
+    ensures { λ r. ⌜ r ≡ solveFile usual (old file) limit tolerance room ⌝ }
+    ensures { λ r. ⌜ r .count ≤ room ⌝ }
 {
     let mut starts = [0usize; 256];
     let first = file::test_file(file, &mut starts);
@@ -159,7 +142,8 @@ pub fn solve_file(file: &[u8], limit: usize, tolerance: f64) -> Solved
         &starts,
         task,
         limit,
-        file_bounds(file),
+        file::file_bounds(file),
+        room,
     )
 }
 
@@ -171,8 +155,10 @@ pub fn solve(
     hi: &[f64],
     limit: usize,
     tolerance: f64,
+    room: usize,
 ) -> Solved
-    ensures { λ r. ⌜ r ≡ solveGiven usual (old nodes) (old constraints) (old lo) (old hi) limit tolerance ⌝ }
+    ensures { λ r. ⌜ r ≡ solveGiven usual (old nodes) (old constraints) (old lo) (old hi) limit tolerance room ⌝ }
+    ensures { λ r. ⌜ r .count ≤ room ⌝ }
 {
     let mut starts = [0usize; 256];
     let first = file::test_given(nodes, constraints, &mut starts);
@@ -200,5 +186,6 @@ pub fn solve(
         task,
         limit,
         Boxes::new(lo, hi, lo.len()),
+        room,
     )
 }

@@ -12,6 +12,7 @@ use Rattle.file.specs.File.{left, givenRefusal}
 use Rattle.point.specs.declared.EvalAnswer.{EvalAnswer}
 use Rattle.point.specs.declared.CheckAnswer.{CheckAnswer}
 use Rattle.point.specs.declared.ResidualAnswer.{ResidualAnswer}
+use Rattle.point.specs.declared.eval.EvalError.{EvalError}
 use Rattle.point.specs.declared.eval.Evaluated.{Evaluated}
 use Rattle.point.specs.Eval.{evalReal}
 use Rattle.point.specs.Check.{check}
@@ -28,6 +29,13 @@ evalRefusal nodes k p =
 abbrev pub evalAnswered : Evaluated → EvalAnswer
 evalAnswered (Evaluated.Value v) = EvalAnswer.Value v
 evalAnswered (Evaluated.Failed e) = EvalAnswer.Failed e
+
+-- the numbers of the errors; a value has 0
+abbrev pub errorNumber : EvalError → ℕ
+errorNumber (EvalError.VarOutOfBounds i n) = 1
+errorNumber EvalError.NanEncountered = 2
+errorNumber (EvalError.ComplexResult x) = 3
+errorNumber (EvalError.ExpOverflow x) = 4
 
 unfoldable pub evalAnswer : Settings → List ℕ → ℕ → List Float → EvalAnswer
 evalAnswer σ nodes k p = refusedOr (evalRefusal nodes k p) EvalAnswer.Refused (evalAnswered (evalReal σ p (treeAt nodes k)))

@@ -14,7 +14,7 @@ use Rattle.interval.specs.declared.Interval.{Interval}
 use Rattle.interval.specs.Interval.{midpoint, contains, split}
 use Rattle.interval.specs.Boxes.{missing, starting, midpoints, widest}
 use Rattle.interval.specs.Choices.{either}
-use Rattle.interval.specs.Inside.{Sound, Each, EachInside, Narrower, midpoint-inside, lower-inside, upper-inside, lower-sound, upper-sound, narrower-refl, narrower-trans, each-proper, each-sound, set-narrower}
+use Rattle.interval.specs.Inside.{Sound, Each, EachInside, Narrower, midpoint-inside, lower-inside, upper-inside, lower-sound, upper-sound, sound-ends, narrower-refl, narrower-trans, each-proper, each-sound, set-narrower}
 use Rattle.constraint.specs.Constraint.{Constraint, numVars}
 use Rattle.narrow.specs.Narrowing.{propagate}
 use Rattle.narrow.specs.Held.{ConstraintHeld}
@@ -52,7 +52,7 @@ midpoints-in (i ∷ is) (j ∷ js) h s =
 -- ---- halving
 missing-sound : Sound missing
 unfolding missing ofInt fits le
-missing-sound = record { range = tt; ends = record { lo = tt; hi = tt } }
+missing-sound = tt
 
 box-sound : (b : List Interval) (i : ℕ) → Each Sound b → Sound (getD b i missing)
 box-sound [] i s = missing-sound
@@ -66,7 +66,7 @@ halved-narrows σ c b s =
     let i = getD b w missing in
     let k = box-sound b w s in
     let half = set-narrower b w in
-    either (Narrower b) _ _ _ (half (split i .lower) (each-proper b s) (lower-inside i k) (lower-sound i k .ends)) (half (split i .upper) (each-proper b s) (upper-inside i k) (upper-sound i k .ends))
+    either (Narrower b) _ _ _ (half (split i .lower) (each-proper b s) (lower-inside i k) (sound-ends (split i .lower) (lower-sound i k))) (half (split i .upper) (each-proper b s) (upper-inside i k) (sound-ends (split i .upper) (upper-sound i k)))
 
 -- ---- the run
 module _ (σ : Settings) (p : Problem) (f : ConstraintHeld (p .constraint)) (start : List Interval) where

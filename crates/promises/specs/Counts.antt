@@ -24,10 +24,10 @@ pub limit-itself : (σ : Settings) (p : Problem) (bounds : List Interval) (L : �
 limit-itself σ p bounds L = solve-counts σ p bounds L .limit-itself
 
 -- Of what the calls return:
-pub file-counted : (σ : Settings) (file : List ℕ) (L : ℕ) (ε : Float) → Counted L (solveFile σ file L ε)
+pub file-counted : (σ : Settings) (file : List ℕ) (L : ℕ) (ε : Float) (room : ℕ) → Counted L (solveFile σ file L ε room)
 unfolding solveFile
-file-counted σ file L ε = answered-counted L (readFile file) _ _ (λ c bs. solved-counted σ (problem c ε) bs L)
+file-counted σ file L ε room = answered-counted L (readFile file) _ _ (λ c bs. solved-counted σ (problem c ε) bs L)
 
-pub given-counted : (σ : Settings) (nodes b : List ℕ) (lo hi : List Float) (L : ℕ) (ε : Float) → Counted L (solveGiven σ nodes b lo hi L ε)
+pub given-counted : (σ : Settings) (nodes b : List ℕ) (lo hi : List Float) (L : ℕ) (ε : Float) (room : ℕ) → Counted L (solveGiven σ nodes b lo hi L ε room)
 unfolding solveGiven
-given-counted σ nodes b lo hi L ε = answered-counted L (readGiven nodes b) _ _ (λ c none. solved-counted σ (problem c ε) (intervals lo hi) L)
+given-counted σ nodes b lo hi L ε room = answered-counted L (readGiven nodes b) _ _ (λ c none. solved-counted σ (problem c ε) (intervals lo hi) L)

@@ -3,6 +3,8 @@ pub mod Assignments
 pub mod Received
 pub mod Accepted
 pub mod Kept
+pub mod Written
 pub mod Counts
 pub mod Demand3
+pub mod Left
 pub mod Starred

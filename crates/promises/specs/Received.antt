@@ -10,6 +10,7 @@ use lib.ListN.{take}
 use lib.Seq.{take-append-seam}
 use lib.Ieee.{Float}
 use Rattle.settings.specs.declared.Settings.{Settings}
+use Rattle.record.specs.Refusal.{refusedOr}
 use Rattle.interval.specs.declared.Interval.{Interval}
 use Rattle.interval.specs.Boxes.{padded}
 use Rattle.constraint.specs.Constraint.{Constraint}
@@ -92,10 +93,13 @@ solved-counted σ p bounds L =
       refused = λ e. absurd (e (not-refused a));
     }
 
-pub answered-counted : (L : ℕ) (x : Read) (later : ℕ) (answer : Constraint → List Interval → Answer) → ((c : Constraint) (bs : List Interval) → Counted L (solvedOf (answer c bs))) → Counted L (answeredBy x later answer)
+or-counted : (L r : ℕ) {x : Solved} → Counted L x → Counted L (refusedOr r refusedWith x)
+or-counted L zero h = h
+or-counted L (suc r) h = refused-counted L (suc r)
+
+pub answered-counted : (L : ℕ) (x : Read) (later : Constraint → ℕ) (answer : Constraint → List Interval → Answer) → ((c : Constraint) (bs : List Interval) → Counted L (solvedOf (answer c bs))) → Counted L (answeredBy x later answer)
 answered-counted L (Refused r) later answer h = refused-counted L r
-answered-counted L (Accepted c bs) zero answer h = h c bs
-answered-counted L (Accepted c bs) (suc n) answer h = refused-counted L (suc n)
+answered-counted L (Accepted c bs) later answer h = or-counted L (later c) (h c bs)
 
 -- ---- two limits
 -- x is the answer under a limit, and not "limit"; y is that under the limit M

@@ -40,7 +40,7 @@ fn replays(file: &mut [u8], head: &[u8]) -> bool
 {
     let got = io::read_full(0, file);
     let limit = record::read_u64(head, 8) as usize;
-    let s = nra::solve_file(&file[..got], limit, record::read_f64(head, 16));
+    let s = nra::solve_file(&file[..got], limit, record::read_f64(head, 16), 16);
     is_same(s, head)
 }
 

@@ -3,30 +3,31 @@ use Prim.Native.Nat.{ℕ, suc, _+_, _*_, max, _≤_, _<_}
 use mathlib.Core.Path.{_≡_, refl, sym, ap, ap₂, _∙_}
 use mathlib.Core.Bool.{true, false}
 use mathlib.Core.List.{List}
-use mathlib.Core.Logic.{⊎-elim}
-use native.Mathlib.Nat.{le-antisymm, le-of-suc-le-suc, eq-or-lt-of-le}
+use native.Mathlib.Nat.{le-antisymm}
+use native.Mathlib.Numerals.{add-one}
 use native.Mathlib.Omega.{arith}
 use borrow.Author.Tests.{le-leb, lt-leb}
 use lib.ListN.{length, getD, set}
+use Rattle.number.specs.Notation.{if_then_else_}
 use Rattle.record.specs.Refusal.{first, passing, filled}
 use Rattle.record.specs.RefusalLaws.{none-more, none-of-each, passing-all, first-here, passing-here, length-filled, filled-at, filled-more}
 use Rattle.tree.specs.Tree.{size, depth, isSmall}
 use Rattle.tree.specs.Nodes.{nodeAt, isNode, treeAt, nodeRefusal, nodesRefusal, nodesFit, listRefusal, Valid}
 use Rattle.tree.specs.NodeLaws.{Right, right, tree-one, tree-const, tree-var, tree-eml, size-small, depth-small}
-use Rattle.tree.specs.Code.{sizeAt, depthAt, sizeBy, depthBy, Known, Within}
+use Rattle.tree.specs.Code.{sizeAt, depthAt, sizeBy, depthBy, Known, largest, listLargest}
 use Rattle.tree.specs.declared.Node.{Node}
 
--- the first k; their sizes and depths are held, and no size is above m
+-- the first k; their sizes and depths are held, and the largest size
 pub record Passed (b : List ℕ) (k : ℕ) (s₀ d₀ s d : List ℕ) (m : ℕ) : Type 0 where
   pub none : first (nodeRefusal b) k ≡ 0
   pub sizes : s ≡ filled (sizeAt b) k s₀
   pub depths : d ≡ filled (depthAt b) k d₀
-  pub within : Within b k m
+  pub most : m ≡ largest b k
 
 -- what `test_nodes` ensures
 abbrev pub Answer : List ℕ → ℕ → List ℕ → List ℕ → List ℕ → List ℕ → ℕ → ℕ → Type 0
 Answer b n s₀ d₀ s d m r =
-    (r ≡ nodesRefusal b n) × ((s ≡ filled (sizeAt b) (passing (nodeRefusal b) n) s₀) × ((d ≡ filled (depthAt b) (passing (nodeRefusal b) n) d₀) × (r ≡ 0 → Within b n m)))
+    (r ≡ nodesRefusal b n) × ((s ≡ filled (sizeAt b) (passing (nodeRefusal b) n) s₀) × ((d ≡ filled (depthAt b) (passing (nodeRefusal b) n) d₀) × (m ≡ largest b (passing (nodeRefusal b) n))))
 
 module _ (b : List ℕ) (k : ℕ) (s₀ d₀ s d : List ℕ) (m : ℕ) (p : Passed b k s₀ d₀ s d m) where
   pub finished : (n : ℕ) → n ≤ k → k ≤ n → Answer b n s₀ d₀ s d m 0
@@ -35,7 +36,7 @@ module _ (b : List ℕ) (k : ℕ) (s₀ d₀ s d : List ℕ) (m : ℕ) (p : Pass
       let e = le-antisymm h g in
       let q = sym (ap (passing (nodeRefusal b)) e ∙ passing-all (nodeRefusal b) k (p .none)) in (
         sym (ap (first (nodeRefusal b)) e ∙ p .none),
-        (p .sizes ∙ ap (λ (j : ℕ). filled (sizeAt b) j s₀) q, (p .depths ∙ ap (λ (j : ℕ). filled (depthAt b) j d₀) q, λ z j l. p .within j (omega arith))),
+        (p .sizes ∙ ap (λ (j : ℕ). filled (sizeAt b) j s₀) q, (p .depths ∙ ap (λ (j : ℕ). filled (depthAt b) j d₀) q, p .most ∙ ap (largest b) q)),
       )
 
 module _ (b : List ℕ) (k : ℕ) (s₀ d₀ s d : List ℕ) (m : ℕ) (p : Passed b k s₀ d₀ s d m) (n : ℕ) (l : k < n) (few : n ≤ 1024) (there : 16 * n ≤ length b) where
@@ -44,7 +45,7 @@ module _ (b : List ℕ) (k : ℕ) (s₀ d₀ s d : List ℕ) (m : ℕ) (p : Pass
   stop r e =
       let q = sym (passing-here (nodeRefusal b) r k (p .none) e n l) in (
         sym (first-here (nodeRefusal b) r k (p .none) e n l),
-        (p .sizes ∙ ap (λ (j : ℕ). filled (sizeAt b) j s₀) q, (p .depths ∙ ap (λ (j : ℕ). filled (depthAt b) j d₀) q, λ z. absurd (omega (arith, z)))),
+        (p .sizes ∙ ap (λ (j : ℕ). filled (sizeAt b) j s₀) q, (p .depths ∙ ap (λ (j : ℕ). filled (depthAt b) j d₀) q, p .most ∙ ap (largest b) q)),
       )
 
   -- the tests, in order
@@ -66,11 +67,12 @@ module _ (b : List ℕ) (k : ℕ) (s₀ d₀ s d : List ℕ) (m : ℕ) (p : Pass
     none-here g h = simp (is, le-leb _ _ g, le-leb _ _ h)
 
     pub next : (u w m′ : ℕ) → u ≡ size (treeAt b k) → w ≡ depth (treeAt b k) → u ≤ 4096 → w ≤ 128 → m′ ≡ max m u → Passed b (k + 1) s₀ d₀ (set s k u) (set d k w) m′
+    unfolding largest
     next u w m′ x y g h e = record {
       none = none-more (nodeRefusal b) k (p .none) (none-here (omega arith) (omega arith));
       sizes = ap₂ (λ (a : List ℕ) (c : ℕ). set a k c) (p .sizes) x ∙ filled-more (sizeAt b) s₀ k;
       depths = ap₂ (λ (a : List ℕ) (c : ℕ). set a k c) (p .depths) y ∙ filled-more (depthAt b) d₀ k;
-      within = λ j l. ⊎-elim (λ (q : j ≡ k). omega (arith, x, e, ap (λ (i : ℕ). size (treeAt b i)) q)) (λ (q : j < k). omega (arith, p .within j q, e)) (eq-or-lt-of-le (le-of-suc-le-suc (omega arith)));
+      most = e ∙ ap₂ max (p .most) x ∙ sym (ap (largest b) (add-one k));
     }
 
     -- what `measure` asks and tells
@@ -122,10 +124,10 @@ module _ (b : List ℕ) (k : ℕ) (s₀ d₀ s d : List ℕ) (m : ℕ) (p : Pass
 
 -- ---- what `test_sizes` tells
 module _ (b : List ℕ) (n : ℕ) where
-  pub no-fit : nodesFit (length b) n ≡ false → 2 ≡ listRefusal b n
-  unfolding listRefusal
-  no-fit e = simp e
+  pub no-fit : nodesFit (length b) n ≡ false → (2 ≡ listRefusal b n) × (0 ≡ listLargest b n)
+  unfolding listRefusal listLargest if_then_else_
+  no-fit e = (simp e, simp e)
 
-  pub fitting : nodesFit (length b) n ≡ true → nodesRefusal b n ≡ listRefusal b n
-  unfolding listRefusal
-  fitting e = simp e
+  pub fitting : nodesFit (length b) n ≡ true → (nodesRefusal b n ≡ listRefusal b n) × (largest b (passing (nodeRefusal b) n) ≡ listLargest b n)
+  unfolding listRefusal listLargest if_then_else_
+  fitting e = (simp e, simp e)

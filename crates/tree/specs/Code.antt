@@ -1,14 +1,14 @@
 -- What the functions below the tests compute, in the terms of their arguments.
-use Prim.Native.Nat.{ℕ, _+_, max, _≤_, _<_}
+use Prim.Native.Nat.{ℕ, zero, suc, _+_, max, _≤_, _<_}
 use mathlib.Core.Path.{_≡_}
 use mathlib.Core.Bool.{Bool, _&&_}
 use mathlib.Core.List.{List}
 use lib.Dec.{leb, ltb, eqb}
 use Rattle.number.specs.Notation.{if_then_else_}
 use lib.ListN.{length, getD}
-use Rattle.record.specs.Refusal.{_or-else_, _unless_}
+use Rattle.record.specs.Refusal.{_or-else_, _unless_, passing}
 use Rattle.tree.specs.Tree.{Tree, size, depth}
-use Rattle.tree.specs.Nodes.{nodesFit, treeAt, listRefusal}
+use Rattle.tree.specs.Nodes.{nodesFit, treeAt, nodeRefusal, listRefusal}
 use Rattle.tree.specs.declared.Sized.{Sized}
 use Rattle.tree.specs.declared.Node.{Node}
 
@@ -58,9 +58,18 @@ Known (Node.Const v) s d = Unit {0}
 Known (Node.Var i) s d = Unit {0}
 Known (Node.Eml l r) s d = KnownBoth l r s d
 
+-- the size of the largest of the first n trees
+unfoldable pub largest : List ℕ → ℕ → ℕ
+largest b zero = 0
+largest b (suc n) = max (largest b n) (sizeAt b n)
+
+-- and of those trees of a list that pass its tests
+unfoldable pub listLargest : List ℕ → ℕ → ℕ
+listLargest b n = if nodesFit (length b) n then largest b (passing (nodeRefusal b) n) else 0
+
 -- the trees of the first n nodes are of at most that size
 abbrev pub Within : List ℕ → ℕ → ℕ → Type 0
-Within b n largest = (k : ℕ) → k < n → size (treeAt b k) ≤ largest
+Within b n size = (k : ℕ) → k < n → sizeAt b k ≤ size
 
 -- the size and the depth of an accepted tree
 pub record Measured (t : Tree) (s : Sized) : Type 0 where

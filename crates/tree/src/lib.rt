@@ -11,7 +11,7 @@ ghost use Rattle.record.specs.Refusal.{passing, filled};
 ghost use Rattle.record.specs.Leaving.{_leaving_};
 ghost use Rattle.tree.specs.Tree.{treeVars};
 ghost use Rattle.tree.specs.Nodes.{nodeAt, isNode, nodeRefusal, nodesRefusal, nodesFit, listRefusal, Valid};
-ghost use Rattle.tree.specs.Code.{rightEnd, leftEnd, chosen, sizeAt, depthAt, sizeBy, depthBy, Known, KnownBoth, Within, Measured, operandsRefusal, resultRefusal};
+ghost use Rattle.tree.specs.Code.{rightEnd, leftEnd, chosen, sizeAt, depthAt, sizeBy, depthBy, Known, KnownBoth, largest, listLargest, Measured, operandsRefusal, resultRefusal};
 ghost use Rattle.tree.specs.Canonical.{lnNodes, subNodes, lnRefusal, subRefusal, ln as lnOf, sub as subOf};
 ghost use Rattle.tree.specs.Encoding.{nodeBytes, nodesBytes};
 ghost use Rattle.tree.specs.Views.{theTree};
@@ -149,7 +149,7 @@ fn test_nodes(nodes: &[u8], count: usize, size: &mut [u16], depth: &mut [u8]) ->
     ensures { λ r. ⌜ r .refusal ≡ nodesRefusal (old nodes) count ⌝ }
     ensures { λ _. ⌜ final size ≡ filled (sizeAt (old nodes)) (passing (nodeRefusal (old nodes)) count) (old size) ⌝ }
     ensures { λ _. ⌜ final depth ≡ filled (depthAt (old nodes)) (passing (nodeRefusal (old nodes)) count) (old depth) ⌝ }
-    ensures { λ r. ⌜ (r .refusal ≡ 0 → Within (old nodes) count (r .largest)) ⌝ }
+    ensures { λ r. ⌜ r .largest ≡ largest (old nodes) (passing (nodeRefusal (old nodes)) count) ⌝ }
 {
     let mut largest: usize = 0;
     let mut k: usize = 0;
@@ -197,7 +197,7 @@ fn nodes_fit(len: usize, n: usize) -> bool
 // A list of count nodes: 2, then each node 3, 4. Room for a short list is made sooner.
 pub fn test_sizes(nodes: &[u8], count: usize) -> Tested
     ensures { λ r. ⌜ r .refusal ≡ listRefusal (old nodes) count ⌝ }
-    ensures { λ r. ⌜ (r .refusal ≡ 0 → Within (old nodes) count (r .largest)) ⌝ }
+    ensures { λ r. ⌜ r .largest ≡ listLargest (old nodes) count ⌝ }
 {
     if !nodes_fit(nodes.len(), count) {
         return Tested {

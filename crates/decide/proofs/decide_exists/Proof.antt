@@ -11,22 +11,22 @@ returns : tie.Need-returns
 unfolding decideExistsGiven
 returns c =
     let p₁ = c .before .before in
-    decision-refused _ _ _ _ _ _ (p₁ .decision-refusal .ensures .0) (c .before .if1 .taken) (c .refused .ensures)
+    decision-refused _ _ _ _ _ _ _ (p₁ .decision-refusal .ensures .0) (c .before .if1 .taken) (c .refused .ensures)
 
 sub-root : tie.Need-sub-root
-sub-root c = some-given _ _ (decision-accepted _ _ _ _ _ (c .before .decision-refusal .ensures .0) (c .if1 .left) .0)
+sub-root c = some-given _ _ (decision-accepted _ _ _ _ _ _ (c .before .decision-refusal .ensures .0) (c .if1 .left) .0)
 
 exists-accepted-requires : tie.Need-exists-accepted-requires
 exists-accepted-requires c κs =
     let p₁ = c .before .before .before in
-    let e = decision-accepted _ _ _ _ _ (p₁ .decision-refusal .ensures .0) (c .before .before .if1 .left) in
+    let e = decision-accepted _ _ _ _ _ _ (p₁ .decision-refusal .ensures .0) (c .before .before .if1 .left) in
     (last-given _ _ (e .0) _ _ refl (p₁ .decision-refusal .ensures .1), e .1)
 
 returns-2 : tie.Need-returns-2
 unfolding decideExistsGiven
 returns-2 c =
     let p₁ = c .before .before .before .before in
-    decision-made _ _ _ _ _ _ (p₁ .decision-refusal .ensures .0) (c .before .before .before .if1 .left)
+    decision-made _ _ _ _ _ _ _ (p₁ .decision-refusal .ensures .0) (c .before .before .before .if1 .left)
     (rw (← c .before .before .usual .ensures) (c .exists-accepted .ensures))
 
 pub decide-exists-spec : {M : Type 1} → statement M

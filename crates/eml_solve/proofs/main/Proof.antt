@@ -5,7 +5,7 @@ use Rattle.eml_solve.proofs.main.Statement.{statement}
 use Rattle.eml_solve.proofs.main.Tie as tie
 
 print-solved-requires : tie.Need-print-solved-requires
-print-solved-requires c κs = rw (c .before .before .solve-file .ensures) (file-fits _ _ _ _)
+print-solved-requires c κs = rw (c .before .before .solve-file .ensures .0) (file-fits _ _ _ _ _)
 
 pub main-spec : {M : Type 1} → statement M
 main-spec =

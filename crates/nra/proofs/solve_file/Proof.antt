@@ -12,7 +12,7 @@ returns : tie.Need-returns
 returns c =
     let p₁ = c .before in
     let p₂ = p₁ .before in
-    refused-file _ _ _ _ (p₂ .test-file .ensures .0) (p₁ .if1 .taken) (c .refused .ensures)
+    (refused-file _ _ _ _ _ (p₂ .test-file .ensures .0) (p₁ .if1 .taken) (c .refused .ensures), rw (c .refused .ensures) (omega arith))
 
 returns-2 : tie.Need-returns-2
 returns-2 c =
@@ -20,7 +20,8 @@ returns-2 c =
     let p₂ = p₁ .before in
     let p₃ = p₂ .before in
     let p₄ = p₃ .before in
-    refused-later _ _ _ _ (sym (p₄ .test-file .ensures .0) ∙ p₃ .if1 .left) (p₂ .limit-refusal .ensures) (p₁ .if2 .taken) (c .refused2 .ensures)
+    let z = c .refused2 .ensures in
+    (refused-later _ _ _ _ _ (sym (p₄ .test-file .ensures .0) ∙ p₃ .if1 .left) (p₂ .limit-refusal .ensures) (p₁ .if2 .taken) z, rw z (omega arith))
 
 constraint-count-requires : tie.Need-constraint-count-requires
 constraint-count-requires c κs =
@@ -80,8 +81,9 @@ returns-3 c =
     let p₇ = p₆ .before in
     let p₈ = p₇ .before in
     let p₉ = p₈ .before in
-    solved-file _ _ _ _ (sym (p₉ .test-file .ensures .0) ∙ p₈ .if1 .left) (p₇ .limit-refusal .ensures) (p₆ .if2 .left) _ _ _ (p₃ .nodes-of .ensures) (p₂ .constraints-of .ensures)
-    (p₅ .constraint-count .ensures) (p₄ .usual .ensures) (p₁ .file-bounds .ensures .1) (c .solve-in .ensures)
+    let r = solved-file _ _ _ _ _ (sym (p₉ .test-file .ensures .0) ∙ p₈ .if1 .left) (p₇ .limit-refusal .ensures) (p₆ .if2 .left) _ _ _ in
+    let z = c .solve-in .ensures in
+    (r (p₃ .nodes-of .ensures) (p₂ .constraints-of .ensures) (p₅ .constraint-count .ensures) (p₄ .usual .ensures) (p₁ .file-bounds .ensures .1) (z .0), z .1)
 
 pub solve-file-spec : {M : Type 1} → statement M
 solve-file-spec =

@@ -4,6 +4,7 @@ use Rattle.point.proofs.eval_tested.Statement.{statement}
 use Rattle.point.proofs.eval_tested.Tie as tie
 use mathlib.Core.Path.{sym, _∙_}
 use native.Mathlib.Omega.{arith}
+use Rattle.tree.specs.SizeLaws.{list-within}
 use Rattle.point.proofs.Answers.{uneven, list-refused, no-node, too-many, none-refused}
 
 returns : tie.Need-returns
@@ -31,7 +32,7 @@ returns-5 c =
     let p₂ = p₁ .before in
     let p₃ = p₂ .before .before in
     let p₄ = p₃ .before in
-    (p₂ .if2 .left ∙ none-refused _ _ _ (p₄ .if1 .left) (sym (p₃ .test-sizes .ensures .0) ∙ p₂ .if2 .left) (p₁ .if3 .left) (c .if4 .left), λ z. p₃ .test-sizes .ensures .1 z _ (p₁ .if3 .left))
+    (p₂ .if2 .left ∙ none-refused _ _ _ (p₄ .if1 .left) (sym (p₃ .test-sizes .ensures .0) ∙ p₂ .if2 .left) (p₁ .if3 .left) (c .if4 .left), λ z. list-within _ _ (sym (p₃ .test-sizes .ensures .0) ∙ z) (p₃ .test-sizes .ensures .1) _ (p₁ .if3 .left))
 
 pub eval-tested-spec : {M : Type 1} → statement M
 eval-tested-spec =

@@ -2,7 +2,6 @@
 use Prim.Native.Nat.{_≤_, _-_}
 use mathlib.Core.Path.{_≡_, refl, sym, ap, _∙_, subst}
 use mathlib.Core.Bool.{true}
-use native.Mathlib.Nat.{not-suc-le-zero}
 use native.Mathlib.Omega.{arith}
 use borrow.Author.Tests.{not-true, not-false}
 use denote.Ref.{now}
@@ -10,7 +9,7 @@ use lib.ListN.{length, length-set}
 use Rattle.tree.specs.Tree.{size, depth}
 use Rattle.record.specs.Refusal.{first, filled}
 use Rattle.tree.specs.Nodes.{treeAt, isNode}
-use Rattle.tree.specs.Code.{sizeBy, depthBy, Known}
+use Rattle.tree.specs.Code.{sizeBy, depthBy, Known, largest}
 use Rattle.tree.specs.declared.Node.{Node}
 use Rattle.tree.proofs.Nodes.{Passed, finished, three, four-size, four-depth, next, asked, told}
 use Rattle.tree.proofs.test_nodes.Statement.{statement}
@@ -40,8 +39,8 @@ module _ (c : tie.After-measure Inv-loop μ-loop) where
       (c .measure .ensures .0 ∙ ap (λ (m : Node). sizeBy m (l .loop .size)) e ∙ w .0, c .measure .ensures .1 ∙ ap (λ (m : Node). depthBy m (l .loop .depth)) e ∙ w .1)
 
 loop-holds : tie.Need-loop-holds Inv-loop μ-loop
-unfolding first filled
-loop-holds c = (omega arith, record { none = refl; sizes = refl; depths = refl; within = λ j h. absurd (not-suc-le-zero h) }, refl, refl)
+unfolding first filled largest
+loop-holds c = (omega arith, record { none = refl; sizes = refl; depths = refl; most = refl }, refl, refl)
 
 returns : tie.Need-returns Inv-loop μ-loop
 returns c =

@@ -3,13 +3,12 @@ use borrow.Author.Needs.{needs}
 use Rattle.tree.proofs.test_sizes.Statement.{statement}
 use Rattle.tree.proofs.test_sizes.Tie as tie
 use mathlib.Core.Path.{sym, _∙_}
-use native.Mathlib.Omega.{arith}
 use borrow.Author.Tests.{not-true, not-false}
 use Rattle.tree.specs.NodeLaws.{fit-parts}
 use Rattle.tree.proofs.Nodes.{no-fit, fitting}
 
 returns : tie.Need-returns
-returns c = (no-fit _ _ (sym (c .before .nodes-fit .ensures) ∙ not-true _ (c .if1 .taken)), λ z. absurd (omega (arith, z)))
+returns c = no-fit _ _ (sym (c .before .nodes-fit .ensures) ∙ not-true _ (c .if1 .taken))
 
 test-nodes-requires : tie.Need-test-nodes-requires
 test-nodes-requires c κs =
@@ -24,7 +23,8 @@ returns-2 c =
     let p₁ = c .before .before in
     let p₂ = p₁ .before .before .before .before in
     let p₃ = p₂ .before in
-    (p₁ .test-nodes .ensures .0 ∙ fitting _ _ (sym (p₃ .nodes-fit .ensures) ∙ not-false _ (p₂ .if1 .left)), p₁ .test-nodes .ensures .1 .1 .1)
+    let f = fitting _ _ (sym (p₃ .nodes-fit .ensures) ∙ not-false _ (p₂ .if1 .left)) in
+    (p₁ .test-nodes .ensures .0 ∙ f .0, p₁ .test-nodes .ensures .1 .1 .1 ∙ f .1)
 
 test-nodes-requires-2 : tie.Need-test-nodes-requires-2
 test-nodes-requires-2 c κs =
@@ -36,7 +36,8 @@ returns-3 c =
     let p₁ = c .before .before in
     let p₂ = p₁ .before .before .before .before in
     let p₃ = p₂ .before in
-    (p₁ .test-nodes2 .ensures .0 ∙ fitting _ _ (sym (p₃ .nodes-fit .ensures) ∙ not-false _ (p₂ .if1 .left)), p₁ .test-nodes2 .ensures .1 .1 .1)
+    let f = fitting _ _ (sym (p₃ .nodes-fit .ensures) ∙ not-false _ (p₂ .if1 .left)) in
+    (p₁ .test-nodes2 .ensures .0 ∙ f .0, p₁ .test-nodes2 .ensures .1 .1 .1 ∙ f .1)
 
 pub test-sizes-spec : {M : Type 1} → statement M
 test-sizes-spec =

@@ -5,7 +5,7 @@ use Rattle.eml.proofs.deciding.eml_decide_forall.Statement.{statement}
 use Rattle.eml.proofs.deciding.eml_decide_forall.Tie as tie
 
 write-decided-requires : tie.Need-write-decided-requires
-write-decided-requires c κs = rw (c .before .before .before .decide-forall .ensures) (forall-given-values _ _ _ _ _ _ _)
+write-decided-requires c κs = rw (c .before .before .before .decide-forall .ensures) (forall-given-values _ _ _ _ _ _ _ _)
 
 returns : tie.Need-returns
 returns c = rw (← c .before .before .before .before .before .before .decide-forall .ensures) (c .before .before .write-decided .ensures)

@@ -1,23 +1,11 @@
 -- `write_point` meets its contract: each turn copies one value more. Assumes nothing.
-use Prim.Native.Nat.{ℕ, suc, _+_, _-_, _<_, _≤_}
-use mathlib.Core.Path.{_≡_, ap, _∙_}
-use mathlib.Core.List.{List}
+use Prim.Native.Nat.{ℕ, _-_, _≤_}
+use mathlib.Core.Path.{_≡_, refl, ap, _∙_}
 use native.Mathlib.Omega.{arith}
-use lib.ListN.{length, getD, set}
-use lib.Ieee.{Float, nan}
-use lib.Seq.{paste, paste-zero, paste-suc, length-paste}
+use lib.Seq.{paste, paste-zero}
+use Rattle.interval.specs.PlacesLaws.{copied-length, copied-next}
 use Rattle.eml.proofs.values.write_point.Statement.{statement}
 use Rattle.eml.proofs.values.write_point.Tie as tie
-
-module _ (d s l : List Float) (j : ℕ) (copied : l ≡ paste d 0 s j) where
-  size : j ≤ length d → j ≤ length s → length l ≡ length d
-  size hd hs = ap length copied ∙ length-paste d 0 s j (omega arith) hs
-
-  more : j < length d → j < length s → set l j (getD s j nan) ≡ paste d 0 s (j + 1)
-  more hd hs =
-      let z : j ≡ 0 + j = omega arith in
-      let n : suc j ≡ j + 1 = omega arith in
-      rw copied (ap (λ (k : ℕ). set (paste d 0 s j) k (getD s j nan)) z ∙ paste-suc d 0 s j nan (omega arith) hs ∙ ap (λ (k : ℕ). paste d 0 s k) n)
 
 abbrev Inv-loop : tie.InvT-loop
 Inv-loop count point₀ values i₀ point i = (i ≤ count) × (point ≡ paste point₀ 0 values i)
@@ -39,18 +27,18 @@ slice-write-point : tie.Need-slice-write-point Inv-loop μ-loop
 slice-write-point c =
     let s = c .before .before in
     let l = c .before .loop .inv in
-    omega (arith, s .pre, l .0, c .loop-test .taken, size (s .args .point .now) (s .args .t1) (c .before .loop .point) (c .before .loop .i) (l .1) (omega (arith, s .pre .1)) (omega (arith, s .pre .0)))
+    omega (arith, s .pre, l .0, c .loop-test .taken, copied-length (s .args .point .now) (s .args .t1) (c .before .loop .point) (c .before .loop .i) (l .1) (omega (arith, s .pre .1)) (omega (arith, s .pre .0)))
 
 loop-again : tie.Need-loop-again Inv-loop μ-loop
 loop-again c =
     let s = c .before .before in
-    (omega arith, more (s .args .point .now) (s .args .t1) (c .before .loop .point) (c .before .loop .i) (c .before .loop .inv .1) (omega (arith, s .pre .1)) (omega (arith, s .pre .0)))
+    (omega arith, copied-next (s .args .point .now) (s .args .t1) (c .before .loop .point) (c .before .loop .i) (c .before .loop .inv .1) refl (omega (arith, s .pre .1)) (omega (arith, s .pre .0)))
 
 same-length : tie.Need-same-length Inv-loop μ-loop
 same-length c =
     let s = c .before .before in
     let l = c .before .loop .inv in
-    size (s .args .point .now) (s .args .t1) (c .before .loop .point) (c .before .loop .i) (l .1) (omega (arith, s .pre .1)) (omega (arith, s .pre .0))
+    copied-length (s .args .point .now) (s .args .t1) (c .before .loop .point) (c .before .loop .i) (l .1) (omega (arith, s .pre .1)) (omega (arith, s .pre .0))
 
 returns : tie.Need-returns Inv-loop μ-loop
 returns c =
