@@ -14,7 +14,7 @@ use Rattle.number.specs.Sound.{sound, sound-held, sound-lo, sound-hi, sound-le,
 use Rattle.number.specs.Halving.{mid, lo≤mid, mid≤hi}
 use Rattle.maths.specs.Exp.{expOf, expAt, scaled}
 use Rattle.maths.specs.Ln.{lnOf, lnFrom, lnAt}
-use Rattle.interval.specs.Interval.{isEmpty, midpoint, contains, split, intersect, hull, exp, nothing, ln, plus, minus}
+use Rattle.interval.specs.Interval.{isEmpty, midpoint, contains, split, intersect, hull, exp, nothing, ln, minus}
 use Rattle.interval.specs.Boxes.{missing, allSound}
 use Rattle.interval.specs.Choices.{either, neither}
 use Rattle.interval.specs.declared.Interval.{Interval}
@@ -154,11 +154,7 @@ pub ln-ends : (i : Interval) → Ends (ln i)
 unfolding ln
 ln-ends i = either Ends _ _ _ (record { lo = ln-held (i .lo); hi = ln-held (i .hi) }) nothing-ends
 
--- ---- sums and differences
-pub plus-ends : (i j : Interval) → Ends (plus i j)
-unfolding plus
-plus-ends i j = record { lo = add-fits binary64 (i .lo) (j .lo); hi = add-fits binary64 (i .hi) (j .hi) }
-
+-- ---- differences
 pub minus-ends : (i j : Interval) → Ends (minus i j)
 unfolding minus
 minus-ends i j = record { lo = sub-fits binary64 (i .lo) (j .hi); hi = sub-fits binary64 (i .hi) (j .lo) }

@@ -28,17 +28,18 @@ module _ (d s l : List Float) (j : ℕ) (copied : l ≡ paste d 0 s j) where
       let z : j ≡ 0 + j = omega arith in
       ap (take j) copied ∙ ap (λ (k : ℕ). take k (paste d 0 s j)) z ∙ take-paste d 0 s j (omega arith) h
 
--- ---- the ends of the starting boxes
-lows-at : (b : List Interval) (i : ℕ) → i < length b → getD b i missing .lo ≡ getD (lows b) i nan
-lows-at [] i h = absurd (not-suc-le-zero h)
-lows-at (x ∷ xs) zero h = refl
-lows-at (x ∷ xs) (suc i) h = lows-at xs i (le-of-suc-le-suc h)
+-- ---- the ends of boxes
+pub lows-at : (b : List Interval) (i : ℕ) (d : Interval) → i < length b → getD b i d .lo ≡ getD (lows b) i nan
+lows-at [] i d h = absurd (not-suc-le-zero h)
+lows-at (x ∷ xs) zero d h = refl
+lows-at (x ∷ xs) (suc i) d h = lows-at xs i d (le-of-suc-le-suc h)
 
-highs-at : (b : List Interval) (i : ℕ) → i < length b → getD b i missing .hi ≡ getD (highs b) i nan
-highs-at [] i h = absurd (not-suc-le-zero h)
-highs-at (x ∷ xs) zero h = refl
-highs-at (x ∷ xs) (suc i) h = highs-at xs i (le-of-suc-le-suc h)
+pub highs-at : (b : List Interval) (i : ℕ) (d : Interval) → i < length b → getD b i d .hi ≡ getD (highs b) i nan
+highs-at [] i d h = absurd (not-suc-le-zero h)
+highs-at (x ∷ xs) zero d h = refl
+highs-at (x ∷ xs) (suc i) d h = highs-at xs i d (le-of-suc-le-suc h)
 
+-- ---- the starting boxes
 starting-at : (n : ℕ) (bounds : List Interval) (i : ℕ) → i < n → getD bounds i missing ≡ getD (starting n bounds) i missing
 unfolding starting
 starting-at zero bounds i h = absurd (not-suc-le-zero h)
@@ -61,12 +62,12 @@ module _ (n : ℕ) (bounds : List Interval) where
 
     pub low-next : l ≡ paste d 0 (lows (starting n bounds)) i → set l i (v .lo) ≡ paste d 0 (lows (starting n bounds)) (i + 1)
     low-next q =
-        copied-next d (lows (starting n bounds)) l i q (ap (λ (x : Interval). x .lo) box-is ∙ lows-at (starting n bounds) i (omega (arith, starting-length n bounds)))
+        copied-next d (lows (starting n bounds)) l i q (ap (λ (x : Interval). x .lo) box-is ∙ lows-at (starting n bounds) i missing (omega (arith, starting-length n bounds)))
         (omega arith) (omega (arith, starting-lows))
 
     pub high-next : l ≡ paste d 0 (highs (starting n bounds)) i → set l i (v .hi) ≡ paste d 0 (highs (starting n bounds)) (i + 1)
     high-next q =
-        copied-next d (highs (starting n bounds)) l i q (ap (λ (x : Interval). x .hi) box-is ∙ highs-at (starting n bounds) i (omega (arith, starting-length n bounds)))
+        copied-next d (highs (starting n bounds)) l i q (ap (λ (x : Interval). x .hi) box-is ∙ highs-at (starting n bounds) i missing (omega (arith, starting-length n bounds)))
         (omega arith) (omega (arith, starting-highs))
 
   -- all are

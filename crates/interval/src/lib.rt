@@ -3,7 +3,7 @@ ghost use mathlib.Core.Path.{_≡_};
 ghost use Prim.Native.Nat.{_<_, _≤_};
 ghost use mathlib.Core.Bool.{_&&_};
 ghost use lib.Dec.{leb};
-ghost use lib.ListN.{length, getD, set};
+ghost use lib.ListN.{length, getD};
 ghost use lib.Ieee.Scale.{finite};
 ghost use Rattle.maths.specs.Exp.{expOf};
 ghost use Rattle.maths.specs.Ln.{lnOf};
@@ -265,28 +265,6 @@ impl Boxes {
             hi: high,
             count: n,
         }
-    }
-
-    // Box i; one beyond the list is [-10, 10].
-    pub fn at(self, i: usize) -> Interval
-        requires { ⌜ self .count ≤ 16 ⌝ }
-        ensures { λ r. ⌜ r ≡ getD (boxesOf self) i missing ⌝ }
-    {
-        if i < self.count {
-            return Interval::new(self.lo[i], self.hi[i]);
-        }
-        Interval::new(-10.0, 10.0)
-    }
-
-    // The same boxes, but for box i.
-    pub fn with_box(self, i: usize, v: Interval) -> Boxes
-        requires { ⌜ (self .count ≤ 16) × (i < self .count) ⌝ }
-        ensures { λ r. ⌜ (r .count ≡ self .count) × (boxesOf r ≡ set (boxesOf self) i v) ⌝ }
-    {
-        let mut out = self;
-        out.lo[i] = v.lo;
-        out.hi[i] = v.hi;
-        out
     }
 
     // The first n of these bounds.

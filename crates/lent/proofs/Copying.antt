@@ -11,6 +11,7 @@ use Rattle.interval.specs.declared.Interval.{Interval}
 use Rattle.interval.specs.declared.Boxes.{Boxes}
 use Rattle.interval.specs.Interval.{_‥_}
 use Rattle.interval.specs.Boxes.{intervals, lows, highs}
+use Rattle.interval.specs.PlacesLaws.{lows-at, highs-at}
 use Rattle.interval.specs.BoxLaws.{intervals-at, intervals-length, lows-length, highs-length}
 use Rattle.lent.specs.Copies.{over, blankOf, putOf, loadOf}
 
@@ -62,17 +63,6 @@ module _ {A : Type 0} where
   over-all [] (y ∷ ys) (suc n) h = refl
   over-all (x ∷ xs) (y ∷ ys) (suc n) h = ap (λ (r : List A). x ∷ r) (over-all xs ys n (le-of-suc-le-suc h))
 
--- ---- the ends of a list of intervals
-lows-at : (ys : List Interval) (i : ℕ) (d : Interval) → getD (lows ys) i (d .lo) ≡ getD ys i d .lo
-lows-at [] i d = refl
-lows-at (y ∷ ys) zero d = refl
-lows-at (y ∷ ys) (suc i) d = lows-at ys i d
-
-highs-at : (ys : List Interval) (i : ℕ) (d : Interval) → getD (highs ys) i (d .hi) ≡ getD ys i d .hi
-highs-at [] i d = refl
-highs-at (y ∷ ys) zero d = refl
-highs-at (y ∷ ys) (suc i) d = highs-at ys i d
-
 -- what stands past the end of a list of intervals
 abbrev pub none : Interval
 none = nan ‥ nan
@@ -90,8 +80,8 @@ module _ (ys : List Interval) where
   unfolding putOf
   loaded-to zero h = refl
   loaded-to (suc i) h =
-      let x : set (sofar i .lo) i (getD ys i none .lo) ≡ sofar (suc i) .lo = rw (← lows-at ys i none) (over-more (lows ys) _ i nan (omega (arith, lows-length ys))) in
-      let y : set (sofar i .hi) i (getD ys i none .hi) ≡ sofar (suc i) .hi = rw (← highs-at ys i none) (over-more (highs ys) _ i nan (omega (arith, highs-length ys))) in
+      let x : set (sofar i .lo) i (getD ys i none .lo) ≡ sofar (suc i) .lo = rw (lows-at ys i none h) (over-more (lows ys) _ i nan (omega (arith, lows-length ys))) in
+      let y : set (sofar i .hi) i (getD ys i none .hi) ≡ sofar (suc i) .hi = rw (highs-at ys i none h) (over-more (highs ys) _ i nan (omega (arith, highs-length ys))) in
       ap (λ (s : Boxes). putOf s i (getD ys i none)) (loaded-to i (omega arith))
       ∙ ap₂ (λ (a b : List Float). record { lo = a; hi = b; count = blankOf (length ys) .count }) x y
 

@@ -62,9 +62,6 @@ avals = Enum.vals P.the-type P′.the-laws
 abbrev pub aval : Propagated → Val
 aval = Enum.val P.the-type P′.the-laws
 
-pub atells : Tells answer (Is answer) avals
-atells = Enum.tells P.the-type P′.the-laws
-
 -- ---- an answer with boxes, and its fields
 abbrev pub narrowed : RattleType
 narrowed = N.the-row

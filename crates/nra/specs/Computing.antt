@@ -7,5 +7,7 @@ use Rattle.constraint.specs.Constraint
 use Rattle.nra.specs.Solver
 
 unfoldable pub computing : Unit {0}
-unfolding Points.computing Narrows.computing Tree.treeVars Constraint.numVars Boxes.midpoints Boxes.allBelow Boxes.widestFrom Boxes.widest Solver.distance Solver.beginChecked Solver.beginNarrowed Solver.beginEmpty Solver.beginIn Solver.beginAt Solver.begin Solver.halved Solver.settleChecked Solver.settleNarrowed Solver.settleIn Solver.halve Solver.steps Solver.finish Solver.run Solver.untried Solver.solve
+unfolding Points.computing Narrows.computing Tree.treeVars Constraint.numVars Boxes.midpoints Boxes.allBelow Boxes.widestFrom Boxes.widest
+    Solver.distance Solver.beginChecked Solver.beginNarrowed Solver.beginEmpty Solver.beginIn Solver.beginAt Solver.begin Solver.halved
+    Solver.settleChecked Solver.settleNarrowed Solver.settleIn Solver.halve Solver.steps Solver.finish Solver.run Solver.untried Solver.solve
 computing = tt

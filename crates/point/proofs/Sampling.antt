@@ -5,7 +5,7 @@ use mathlib.Core.List.{List, [], _∷_, _++_}
 use native.Mathlib.Numerals.{add-one}
 use native.Mathlib.Omega.{arith}
 use lib.ListN.{length, getD, take, drop, set, length-set, length-take, drop-of-length-le}
-use lib.Seq.{drop-cons, take-suc, take-suc-set, take-set-lt, take-all}
+use lib.Seq.{drop-cons, take-suc, take-suc-set, take-all}
 use lib.Ieee.{Float, nan}
 use Rattle.point.specs.Room.{Room}
 use Rattle.point.specs.Code.{samplesOf}

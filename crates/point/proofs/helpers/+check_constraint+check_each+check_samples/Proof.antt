@@ -1,7 +1,7 @@
 -- The functions of the check meet their contracts: at each call the record number falls, or the same record is looked at more closely.
 -- Assumes nothing.
 use Prim.Native.Nat.{ℕ, _≤_, _+_, _-_, _*_}
-use mathlib.Core.Path.{_≡_, refl, sym, ap, _∙_}
+use mathlib.Core.Path.{_≡_, refl, ap, _∙_}
 use mathlib.Core.Bool.{not}
 use native.Mathlib.Omega.{arith}
 use borrow.Author.Needs.{needs}

@@ -1,7 +1,7 @@
 -- The functions of the residual meet their contracts: at each call the record number falls, or the same record is looked at more closely.
 -- Assumes nothing.
 use Prim.Native.Nat.{ℕ, _≤_, _+_, _-_, _*_}
-use mathlib.Core.Path.{_≡_, refl, sym, ap, ap₂, _∙_}
+use mathlib.Core.Path.{_≡_, refl, ap, ap₂, _∙_}
 use native.Mathlib.Omega.{arith}
 use borrow.Author.Needs.{needs}
 use borrow.Fn.Kinds.{In}
@@ -256,7 +256,8 @@ module _ (t : ℕ) where
       let a = p .before .before .before .before .before .args in (
         omega arith,
         f .evaluate-constraint-residual .kept .1 .1 .1 .1 .1 .1 .0 ∙ l .loop .inv .1,
-        one-left _ _ (a .q .v) (a .q .lo) (a .q .hi) _ (a .q .any) (p .samples .ensures) _ _ (l .loop .inv .2) (g .before .loop-test .taken) (f .evaluate-constraint-residual .result) _ (rw (g .sampled .ensures, l .before .before .copied .ensures) at (f .evaluate-constraint-residual .ensures)) (c .sample-more .ensures),
+        one-left _ _ (a .q .v) (a .q .lo) (a .q .hi) _ (a .q .any) (p .samples .ensures) _ _ (l .loop .inv .2) (g .before .loop-test .taken) (f .evaluate-constraint-residual .result) _
+            (rw (g .sampled .ensures, l .before .before .copied .ensures) at (f .evaluate-constraint-residual .ensures)) (c .sample-more .ensures),
       )
 
   samples-same-length : samples-lts.Need-same-length samples-calls samples-at samples.Post Inv-loop μ-loop
