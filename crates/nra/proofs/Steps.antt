@@ -6,9 +6,11 @@ use mathlib.Core.List.{List}
 use native.Mathlib.Numerals.{add-one}
 use native.Mathlib.Omega.{arith}
 use lib.Ieee.{Float}
+use lib.ListN.{length}
 use Rattle.number.specs.Notation.{+∞}
 use Rattle.settings.specs.declared.Settings.{Settings}
 use Rattle.interval.specs.declared.Interval.{Interval}
+use Rattle.interval.specs.declared.Boxes.{Boxes}
 use Rattle.interval.specs.Boxes.{boxesOf, midpoints, allBelow}
 use Rattle.constraint.specs.Constraint.{Constraint}
 use Rattle.narrow.specs.declared.PropResult.{PropResult}
@@ -17,7 +19,7 @@ use Rattle.narrow.specs.Narrowing.{Narrowed, isConflict, propagate}
 use Rattle.point.specs.Check.{check}
 use Rattle.nra.specs.declared.run.Step.{Step}
 use Rattle.nra.specs.declared.run.Run.{Run}
-use Rattle.nra.specs.Answers.{problem, standing, progressOf, goes, stateOf}
+use Rattle.nra.specs.Answers.{problem, standing, progressOf, goes, stateOf, Working}
 use Rattle.nra.specs.Solver.{Problem, conflict, tolerance, assignment, failed, Progress, Stopped, Going, distance, beginChecked, beginNarrowed, beginIn, halved, settleChecked, settleNarrowed, settleIn, halve, steps}
 
 -- ---- narrowing, and what follows it
@@ -69,6 +71,10 @@ module _ (σ : Settings) (c : Constraint) (ε : Float) (b : List Interval) {b′
         pub settle-goes : narrow ≡ false → Going (record { boxes = b′; halvings = h }) ≡ settleIn σ (problem c ε) h b
         unfolding settleChecked
         settle-goes t = settle-checked fails (sym narrows ∙ t)
+
+-- ---- a call that keeps the number of boxes and the length of the order
+pub still-working : {nodes : List ℕ} {b b′ : Boxes} {order later : List ℕ} → Working nodes b order → b′ .count ≡ b .count → length later ≡ length order → Working nodes b′ later
+still-working w n l = record { some = omega (arith, n, w .some); few = omega (arith, n, w .few); long = λ i v. omega (arith, l, w .long i v) }
 
 -- ---- a halving
 pub halved-settles : (σ : Settings) (p : Problem) (r : Run) {b : List Interval} {g : Progress} → b ≡ halved σ (p .constraint) (boxesOf (r .boxes)) → g ≡ settleIn σ p (r .halvings + 1) b

@@ -1,5 +1,5 @@
 -- What the code holds and gives back: where a run stands, and an answer.
-use Prim.Native.Nat.{ℕ, zero, suc, _<_, _≤_}
+use Prim.Native.Nat.{ℕ, zero, suc, _+_, _<_, _≤_}
 use mathlib.Core.Path.{_≡_}
 use mathlib.Core.Bool.{Bool, true, false}
 use mathlib.Core.List.{List, []}
@@ -12,6 +12,8 @@ use Rattle.settings.specs.declared.Settings.{Settings}
 use Rattle.interval.specs.declared.Interval.{Interval}
 use Rattle.interval.specs.declared.Boxes.{Boxes}
 use Rattle.interval.specs.Boxes.{boxesOf, midpoints, padded}
+use Rattle.tree.specs.Tree.{size}
+use Rattle.tree.specs.Nodes.{Valid, treeAt}
 use Rattle.constraint.specs.Constraint.{Constraint}
 use Rattle.constraint.specs.Views.{the}
 use Rattle.nra.specs.declared.halving.Task.{Task}
@@ -54,11 +56,15 @@ pub record At (r : Run) (n h : ℕ) (g : Progress) : Type 0 where
   pub counted : r .halvings ≡ h
   pub stands : progressOf r ≡ g
 
--- what the steps work on: 1 to 16 boxes, and room for the postorder of any accepted tree
-pub record Working (b : Boxes) (order : List ℕ) : Type 0 where
+-- no tree of accepted nodes has a size above n
+abbrev pub NoLarger : List ℕ → ℕ → Type 0
+NoLarger nodes n = (i : ℕ) → Valid nodes (i + 1) → size (treeAt nodes i) ≤ n
+
+-- what the steps work on: 1 to 16 boxes, and room for the postorder of every tree that the nodes have
+pub record Working (nodes : List ℕ) (b : Boxes) (order : List ℕ) : Type 0 where
   pub some : 0 < b .count
   pub few : b .count ≤ 16
-  pub long : 4096 ≤ length order
+  pub long : NoLarger nodes (length order)
 
 -- ---- an answer
 

@@ -92,7 +92,7 @@ pub fn answer_of(
     order: &mut [u16],
 ) -> Solved
     requires { ⌜ Ready (now nodes) (now constraints) (task .root + 1) (now starts) ⌝ }
-    requires { ⌜ Working (run .boxes) (now order) ⌝ }
+    requires { ⌜ Working (now nodes) (run .boxes) (now order) ⌝ }
     ensures { λ r. ⌜ r ≡ solvedOf (tried limit (Solver.finish (task .settings) (asked nodes constraints task) (progressOf run))) ⌝ }
 {
     let step = run.step;

@@ -67,7 +67,7 @@ pub fn halved(
     order: &mut [u16],
 ) -> Boxes
     requires { ⌜ Ready (now nodes) (now constraints) (task .root + 1) (now starts) ⌝ }
-    requires { ⌜ Working boxes (now order) ⌝ }
+    requires { ⌜ Working (now nodes) boxes (now order) ⌝ }
     ensures { λ r. ⌜ (r .count ≡ boxes .count) × (boxesOf r ≡ Solver.halved (task .settings) (the nodes constraints (task .root)) (boxesOf boxes)) ⌝ }
 {
     let w = boxes.widest();

@@ -21,7 +21,7 @@ ghost use Rattle.interval.specs.Boxes.{boxesOf};
 ghost use Rattle.constraint.specs.Starts.{Ready};
 ghost use Rattle.constraint.specs.Views.{the};
 ghost use Rattle.point.specs.Check.{check};
-ghost use Rattle.nra.specs.Answers.{asked, solvedOf, triedIn};
+ghost use Rattle.nra.specs.Answers.{asked, solvedOf, triedIn, NoLarger, Working};
 ghost use Rattle.nra.specs.Calls.{limitRefusal, answeredIn, solveFile, solveGiven};
 ghost use Rattle.nra.specs.Solver as Solver;
 ghost use Rattle.record.specs.Views.{old};
@@ -66,30 +66,32 @@ fn solve_boxes(
     task: Task,
     limit: usize,
     boxes: Boxes,
+    order: &mut [u16],
 ) -> Solved
     requires { ⌜ Ready (now nodes) (now constraints) (task .root + 1) (now starts) ⌝ }
-    requires { ⌜ (0 < boxes .count) × (boxes .count ≤ 16) × (limit ≤ 1_000_000) ⌝ }
+    requires { ⌜ Working (now nodes) boxes (now order) × (limit ≤ 1_000_000) ⌝ }
     ensures { λ r. ⌜ r ≡ solvedOf (triedIn (task .settings) (asked nodes constraints task) limit (boxesOf boxes)) ⌝ }
     ensures { λ r. ⌜ r .count ≤ boxes .count ⌝ }
 {
-    let mut order = [0u16; 4096];
-    let first = begin(nodes, constraints, starts, task, boxes, &mut order);
-    let last = run_to(nodes, constraints, starts, task, limit, first, &mut order);
-    answer_of(nodes, constraints, starts, task, limit, last, &mut order)
+    let first = begin(nodes, constraints, starts, task, boxes, order);
+    let last = run_to(nodes, constraints, starts, task, limit, first, order);
+    answer_of(nodes, constraints, starts, task, limit, last, order)
 }
 
-// In these bounds, where there are places for a point: else 10.
+// In these bounds, where there are places for a point: else 10. No tree is above the size `largest`; room for a short postorder is made
+// sooner.
 fn solve_in(
     nodes: &[u8],
     constraints: &[u8],
     starts: &[usize; 256],
+    largest: usize,
     task: Task,
     limit: usize,
     bounds: Boxes,
     room: usize,
 ) -> Solved
     requires { ⌜ Ready (now nodes) (now constraints) (task .root + 1) (now starts) ⌝ }
-    requires { ⌜ (bounds .count ≤ 16) × (limit ≤ 1_000_000) ⌝ }
+    requires { ⌜ NoLarger (now nodes) largest × (bounds .count ≤ 16) × (limit ≤ 1_000_000) ⌝ }
     ensures { λ r. ⌜ r ≡ answeredIn (task .settings) (asked nodes constraints task) (boxesOf bounds) limit room ⌝ }
     ensures { λ r. ⌜ r .count ≤ room ⌝ }
 {
@@ -100,7 +102,13 @@ fn solve_in(
     if n == 0 {
         return solve_empty(nodes, constraints, starts, task);
     }
-    solve_boxes(nodes, constraints, starts, task, limit, bounds.starting(n))
+    let boxes = bounds.starting(n);
+    if largest <= 64 {
+        let mut order = [0u16; 64];
+        return solve_boxes(nodes, constraints, starts, task, limit, boxes, &mut order);
+    }
+    let mut order = [0u16; 4096];
+    solve_boxes(nodes, constraints, starts, task, limit, boxes, &mut order)
 }
 
 // ---- the public calls
@@ -140,6 +148,7 @@ pub fn solve_file(file: &[u8], limit: usize, tolerance: f64, room: usize) -> Sol
         file::nodes_of(file),
         file::constraints_of(file),
         &starts,
+        4096,
         task,
         limit,
         file::file_bounds(file),
@@ -161,9 +170,9 @@ pub fn solve(
     ensures { λ r. ⌜ r .count ≤ room ⌝ }
 {
     let mut starts = [0usize; 256];
-    let first = file::test_given(nodes, constraints, &mut starts);
-    if first != 0 {
-        return refused(first);
+    let first = file::test_sized(nodes, constraints, &mut starts);
+    if first.refusal != 0 {
+        return refused(first.refusal);
     }
     let second = limit_refusal(limit, tolerance);
     if second != 0 {
@@ -183,6 +192,7 @@ pub fn solve(
         nodes,
         constraints,
         &starts,
+        first.largest,
         task,
         limit,
         Boxes::new(lo, hi, lo.len()),

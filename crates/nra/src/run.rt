@@ -37,7 +37,7 @@ pub fn begin(
     order: &mut [u16],
 ) -> Run
     requires { ⌜ Ready (now nodes) (now constraints) (task .root + 1) (now starts) ⌝ }
-    requires { ⌜ Working boxes (now order) ⌝ }
+    requires { ⌜ Working (now nodes) boxes (now order) ⌝ }
     ensures { λ r. ⌜ At r (boxes .count) 0 (Solver.beginIn (task .settings) (asked nodes constraints task) (boxesOf boxes)) ⌝ }
 {
     let settings = task.settings;
@@ -95,7 +95,7 @@ fn settle(
     order: &mut [u16],
 ) -> Run
     requires { ⌜ Ready (now nodes) (now constraints) (task .root + 1) (now starts) ⌝ }
-    requires { ⌜ Working boxes (now order) ⌝ }
+    requires { ⌜ Working (now nodes) boxes (now order) ⌝ }
     ensures { λ r. ⌜ At r (boxes .count) halvings (Solver.settleIn (task .settings) (asked nodes constraints task) halvings (boxesOf boxes)) ⌝ }
 {
     let settings = task.settings;
@@ -158,7 +158,7 @@ pub fn halve(
     order: &mut [u16],
 ) -> Run
     requires { ⌜ Ready (now nodes) (now constraints) (task .root + 1) (now starts) ⌝ }
-    requires { ⌜ Working (run .boxes) (now order) × (run .halvings < 1_000_000) ⌝ }
+    requires { ⌜ Working (now nodes) (run .boxes) (now order) × (run .halvings < 1_000_000) ⌝ }
     ensures { λ r. ⌜ At r (run .boxes .count) (run .halvings + 1) (Solver.halve (task .settings) (asked nodes constraints task) (stateOf run)) ⌝ }
 {
     let boxes = run.boxes;
@@ -196,7 +196,7 @@ pub fn run_to(
     order: &mut [u16],
 ) -> Run
     requires { ⌜ Ready (now nodes) (now constraints) (task .root + 1) (now starts) ⌝ }
-    requires { ⌜ Working (first .boxes) (now order) × (limit ≤ 1_000_000) ⌝ }
+    requires { ⌜ Working (now nodes) (first .boxes) (now order) × (limit ≤ 1_000_000) ⌝ }
     ensures { λ r. ⌜ r .boxes .count ≡ first .boxes .count ⌝ }
     ensures { λ r. ⌜ progressOf r ≡ Solver.steps (task .settings) (asked nodes constraints task) (limit - first .halvings) (progressOf first) ⌝ }
 {

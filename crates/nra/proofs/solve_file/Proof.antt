@@ -2,6 +2,7 @@
 use mathlib.Core.Path.{refl, sym, _∙_}
 use native.Mathlib.Omega.{arith}
 use borrow.Author.Needs.{needs}
+use Rattle.point.specs.Room.{accepted-fits}
 use Rattle.file.specs.FileLaws.{is-laid, some-constraint, last-ready}
 use Rattle.nra.proofs.Calling.{refused-file, refused-later, solved-file}
 use Rattle.nra.proofs.Tests.{limit-few}
@@ -65,6 +66,7 @@ solve-in-requires c κs =
       last-ready _ (sym (p₇ .test-file .ensures .0) ∙ p₆ .if1 .left) _ _ _ (p₂ .nodes-of .ensures) (p₁ .constraints-of .ensures) (p₃ .constraint-count .ensures) _ _ refl
           (p₇ .test-file .ensures .1),
       (
+        accepted-fits _,
         omega (arith, c .file-bounds .ensures .0, is-laid _ (sym (p₇ .test-file .ensures .0) ∙ p₆ .if1 .left) .few-bounds),
         limit-few _ _ (sym (p₅ .limit-refusal .ensures) ∙ p₄ .if2 .left),
       ),

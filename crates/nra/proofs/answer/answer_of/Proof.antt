@@ -2,7 +2,6 @@
 use mathlib.Core.Path.{sym}
 use native.Mathlib.Omega.{arith}
 use Rattle.number.specs.Literals.{infinite}
-use Rattle.point.specs.Room.{full}
 use Rattle.nra.specs.Answers.{problem}
 use Rattle.nra.proofs.Halves.{middle-length, middle-distance}
 use Rattle.nra.proofs.Answering.{of-going, of-passed, of-conflict, of-tolerance}
@@ -19,7 +18,7 @@ distance-requires : tie.Need-distance-requires
 distance-requires c κs =
     let p₁ = c .before .before in
     let p₂ = p₁ .before .before .before .before .before .before .before in
-    (p₂ .pre .0, full _ _ _ (omega (arith, middle-length _ _ (p₁ .midpoints .ensures), p₂ .pre .1 .few)) (p₂ .pre .1 .long))
+    (p₂ .pre .0, record { few = omega (arith, middle-length _ _ (p₁ .midpoints .ensures), p₂ .pre .1 .few); long = p₂ .pre .1 .long })
 
 returns : tie.Need-returns
 returns c =

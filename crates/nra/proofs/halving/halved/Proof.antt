@@ -5,7 +5,6 @@ use lib.Ieee.{Float}
 use lib.ListN.{length}
 use Rattle.interval.specs.Boxes.{boxesOf}
 use Rattle.interval.specs.BoxLaws.{first-set, boxes-at}
-use Rattle.point.specs.Room.{full}
 use Rattle.nra.proofs.Halves.{moved-wide, again-wide, moved-length, again-length, moved-distance, again-distance, halved-is}
 use borrow.Author.Needs.{needs, length-unmapped}
 use Rattle.nra.proofs.halving.halved.Statement.{statement}
@@ -36,7 +35,7 @@ distance-requires c κs =
     let p₂ = p₁ .before in
     let p₃ = p₂ .before .before .before .before .before .before .before in
     let p₄ = p₃ .before .before .before .before in
-    (p₄ .pre .0, full _ _ _ (omega (arith, moved-length _ _ (p₂ .midpoints .ensures) _ (p₃ .widest .ensures .0) (p₁ .midpoint .result), p₄ .pre .1 .few)) (p₄ .pre .1 .long))
+    (p₄ .pre .0, record { few = omega (arith, moved-length _ _ (p₂ .midpoints .ensures) _ (p₃ .widest .ensures .0) (p₁ .midpoint .result), p₄ .pre .1 .few); long = p₄ .pre .1 .long })
 
 array-share-prefix-point-2 : tie.Need-array-share-prefix-point-2
 array-share-prefix-point-2 c =
@@ -59,8 +58,10 @@ distance-requires-2 c κs =
     let p₅ = p₄ .before .before .before .before .before .before .before in
     let p₆ = p₅ .before .before .before .before in (
       p₆ .pre .0,
-      full _ _ _ (omega (arith, again-length _ _ (p₄ .midpoints .ensures) _ (p₅ .widest .ensures .0) (p₃ .midpoint .result) (p₁ .midpoint2 .result), p₆ .pre .1 .few))
-          (omega (arith, p₂ .distance .kept .1 .1 .1 .1 .1 .0, p₆ .pre .1 .long)),
+      record {
+        few = omega (arith, again-length _ _ (p₄ .midpoints .ensures) _ (p₅ .widest .ensures .0) (p₃ .midpoint .result) (p₁ .midpoint2 .result), p₆ .pre .1 .few);
+        long = λ i v. omega (arith, p₂ .distance .kept .1 .1 .1 .1 .1 .0, p₆ .pre .1 .long i v);
+      },
     )
 
 mul-half : tie.Need-mul-half

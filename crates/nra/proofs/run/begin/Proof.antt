@@ -1,7 +1,6 @@
 -- `nra::run::begin` meets its contract. Assumes nothing.
 use mathlib.Core.Path.{refl, sym}
 use native.Mathlib.Omega.{arith}
-use Rattle.point.specs.Room.{full}
 use Rattle.nra.specs.Answers.{progressOf}
 use Rattle.nra.proofs.Halves.{middle-length, middle-checked}
 use Rattle.nra.proofs.Steps.{begin-conflict, begin-passed, begin-goes}
@@ -26,7 +25,7 @@ check-constraint-requires c κs =
     let p₁ = c .before .before in
     let p₂ = p₁ .before .before .before .before in
     let p₃ = p₂ .before .before .before .before .before in
-    (p₃ .pre .0, full _ _ _ (omega (arith, middle-length _ _ (p₁ .midpoints .ensures), p₃ .pre .1 .few, p₂ .narrow-boxes .ensures .0)) (p₃ .pre .1 .long))
+    (p₃ .pre .0, record { few = omega (arith, middle-length _ _ (p₁ .midpoints .ensures), p₃ .pre .1 .few, p₂ .narrow-boxes .ensures .0); long = p₃ .pre .1 .long })
 
 returns-2 : tie.Need-returns-2
 unfolding progressOf

@@ -8,7 +8,7 @@ use lib.ListN.{length}
 use Rattle.constraint.specs.Records.{constraintAt}
 use Rattle.nra.specs.Answers.{problem, progressOf}
 use Rattle.nra.specs.Solver as Solver
-use Rattle.nra.proofs.Steps.{runs-on, runs-out, runs-stopped}
+use Rattle.nra.proofs.Steps.{still-working, runs-on, runs-out, runs-stopped}
 use Rattle.nra.proofs.run.run_to.Statement.{statement}
 use Rattle.nra.proofs.run.run_to.Tie as tie
 
@@ -41,11 +41,7 @@ halve-requires c κs =
     let p₃ = p₂ .before .before .before .before in (
       p₃ .pre .0,
       (
-        record {
-          some = omega (arith, p₃ .pre .1 .0 .some, p₂ .loop .inv .0);
-          few = omega (arith, p₃ .pre .1 .0 .few, p₂ .loop .inv .0);
-          long = omega (arith, p₃ .pre .1 .0 .long, p₂ .loop .inv .1);
-        },
+        still-working (p₃ .pre .1 .0) (p₂ .loop .inv .0) (p₂ .loop .inv .1),
         omega (arith, p₁ .if1 .taken, p₃ .pre .1 .1),
       ),
     )
