@@ -2,6 +2,7 @@
 use interval::Boxes;
 use interval::Halves;
 use interval::Interval;
+use point::helpers::check_constraint;
 use point::helpers::evaluate_constraint_residual;
 use settings::Settings;
 ghost use mathlib.Core.Path.{_≡_};
@@ -10,6 +11,7 @@ ghost use Rattle.number.specs.Notation.{if_then_else_, _≺_};
 ghost use Rattle.interval.specs.Boxes.{boxesOf};
 ghost use Rattle.constraint.specs.Starts.{Ready};
 ghost use Rattle.constraint.specs.Views.{the};
+ghost use Rattle.point.specs.Check.{check};
 ghost use Rattle.point.specs.Room.{Room};
 ghost use Rattle.record.specs.Views.{old};
 ghost use Rattle.nra.specs.Answers.{Working};
@@ -20,6 +22,31 @@ pub struct Task {
     pub root: usize,
     pub settings: Settings,
     pub tolerance: f64,
+}
+
+// Whether the point passes the check.
+pub fn passes(
+    nodes: &[u8],
+    constraints: &[u8],
+    starts: &[usize; 256],
+    task: Task,
+    point: &[f64],
+    order: &mut [u16],
+) -> bool
+    requires { ⌜ Ready (now nodes) (now constraints) (task .root + 1) (now starts) ⌝ }
+    requires { ⌜ Room (now nodes) (now point) (now order) ⌝ }
+    ensures { λ r. ⌜ r ≡ check (task .settings) (old point) (the nodes constraints (task .root)) ⌝ }
+{
+    let settings = task.settings;
+    check_constraint(
+        nodes,
+        constraints,
+        starts,
+        task.root,
+        settings,
+        point,
+        order,
+    )
 }
 
 // How far the point is from meeting the constraint: the residual's magnitude.

@@ -9,8 +9,8 @@ use answer::answer_of;
 use answer::pointless;
 use answer::refused;
 use halving::Task;
+use halving::passes;
 use interval::Boxes;
-use point::helpers::check_constraint;
 use run::begin;
 use run::run_to;
 ghost use mathlib.Core.Path.{_≡_};
@@ -35,16 +35,7 @@ fn solve_empty(nodes: &[u8], constraints: &[u8], starts: &[usize; 256], task: Ta
 {
     let point = [0.0; 16];
     let mut order = [0u16; 4096];
-    let settings = task.settings;
-    if check_constraint(
-        nodes,
-        constraints,
-        starts,
-        task.root,
-        settings,
-        &point[..0],
-        &mut order,
-    ) {
+    if passes(nodes, constraints, starts, task, &point[..0], &mut order) {
         return Solved {
             refusal: 0,
             stop: Stop::Assignment,

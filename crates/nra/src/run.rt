@@ -2,9 +2,9 @@
 use super::halving::Task;
 use super::halving::distance;
 use super::halving::halved;
+use super::halving::passes;
 use interval::Boxes;
 use narrow::Mode;
-use point::helpers::check_constraint;
 ghost use mathlib.Core.Path.{_≡_};
 ghost use Prim.Native.Nat.{_+_, _-_, _<_, _≤_};
 ghost use Rattle.interval.specs.Boxes.{boxesOf};
@@ -62,15 +62,7 @@ pub fn begin(
     }
     let n = boxes.count;
     let point = boxes.midpoints();
-    if check_constraint(
-        nodes,
-        constraints,
-        starts,
-        task.root,
-        settings,
-        &point[..n],
-        order,
-    ) {
+    if passes(nodes, constraints, starts, task, &point[..n], order) {
         return Run {
             step: Step::Passed(boxes.all_below(task.tolerance)),
             boxes,
@@ -119,15 +111,7 @@ fn settle(
     }
     let n = boxes.count;
     let point = boxes.midpoints();
-    if check_constraint(
-        nodes,
-        constraints,
-        starts,
-        task.root,
-        settings,
-        &point[..n],
-        order,
-    ) {
+    if passes(nodes, constraints, starts, task, &point[..n], order) {
         return Run {
             step: Step::Passed(false),
             boxes,

@@ -10,18 +10,18 @@ use Rattle.nra.proofs.Answering.{empty-passes, empty-fails}
 use Rattle.nra.proofs.solve_empty.Statement.{statement}
 use Rattle.nra.proofs.solve_empty.Tie as tie
 
-check-constraint-requires : tie.Need-check-constraint-requires
-check-constraint-requires c κs = (c .before .before .before .before .before .pre, full _ _ _ (omega arith) (omega arith))
+passes-requires : tie.Need-passes-requires
+passes-requires c κs = (c .before .before .before .before .pre, full _ _ _ (omega arith) (omega arith))
 
 returns : tie.Need-returns
 unfolding solvedOf padded ofBits ofInt
-returns c = empty-passes _ _ (c .before .before .check-constraint .ensures) (c .if1 .taken)
+returns c = empty-passes _ _ (c .before .before .passes .ensures) (c .if1 .taken)
 
 returns-2 : tie.Need-returns-2
 returns-2 c =
     let p₁ = c .before in
     let p₂ = p₁ .before .before in
-    empty-fails _ _ (p₂ .check-constraint .ensures) (p₁ .if1 .left) (rw infinite at (c .pointless .ensures))
+    empty-fails _ _ (p₂ .passes .ensures) (p₁ .if1 .left) (rw infinite at (c .pointless .ensures))
 
 pub solve-empty-spec : {M : Type 1} → statement M
 solve-empty-spec =
@@ -30,7 +30,7 @@ solve-empty-spec =
     (λ c. search needs)
     (λ c. search needs)
     (λ c. search needs)
-    check-constraint-requires
+    passes-requires
     returns
     (λ c κs. search needs)
     returns-2)

@@ -15,13 +15,13 @@ returns c =
     let p₂ = p₁ .before .before in
     record { many = p₂ .narrow-boxes .ensures .0; counted = refl; stands = begin-conflict _ _ _ _ (p₂ .narrow-boxes .ensures .1) (p₁ .is-conflict .ensures) (c .if1 .taken) }
 
-slice-aggregate-check-constraint : tie.Need-slice-aggregate-check-constraint
-slice-aggregate-check-constraint c =
+slice-aggregate-passes : tie.Need-slice-aggregate-passes
+slice-aggregate-passes c =
     let p₁ = c .before in
     sym (middle-length _ _ (p₁ .midpoints .ensures))
 
-check-constraint-requires : tie.Need-check-constraint-requires
-check-constraint-requires c κs =
+passes-requires : tie.Need-passes-requires
+passes-requires c κs =
     let p₁ = c .before .before in
     let p₂ = p₁ .before .before .before .before in
     let p₃ = p₂ .before .before .before .before .before in
@@ -39,7 +39,7 @@ returns-2 c =
     record {
       many = p₆ .narrow-boxes .ensures .0;
       counted = refl;
-      stands = begin-passed _ _ _ _ (p₆ .narrow-boxes .ensures .1) (p₅ .is-conflict .ensures) (p₄ .if1 .left) (middle-checked _ _ (p₃ .midpoints .ensures) _ _ (p₂ .check-constraint .ensures)) (p₁ .if2 .taken) (c .all-below .ensures);
+      stands = begin-passed _ _ _ _ (p₆ .narrow-boxes .ensures .1) (p₅ .is-conflict .ensures) (p₄ .if1 .left) (middle-checked _ _ (p₃ .midpoints .ensures) _ _ (p₂ .passes .ensures)) (p₁ .if2 .taken) (c .all-below .ensures);
     }
 
 returns-3 : tie.Need-returns-3
@@ -53,7 +53,7 @@ returns-3 c =
     record {
       many = p₅ .narrow-boxes .ensures .0;
       counted = refl;
-      stands = begin-goes _ _ _ _ (p₅ .narrow-boxes .ensures .1) (p₄ .is-conflict .ensures) (p₃ .if1 .left) (middle-checked _ _ (p₂ .midpoints .ensures) _ _ (p₁ .check-constraint .ensures)) (c .if2 .left);
+      stands = begin-goes _ _ _ _ (p₅ .narrow-boxes .ensures .1) (p₄ .is-conflict .ensures) (p₃ .if1 .left) (middle-checked _ _ (p₂ .midpoints .ensures) _ _ (p₁ .passes .ensures)) (c .if2 .left);
     }
 
 pub begin-spec : {M : Type 1} → statement M
@@ -65,8 +65,8 @@ begin-spec =
     returns
     (λ c κs. search needs)
     (λ c. search needs)
-    slice-aggregate-check-constraint
-    check-constraint-requires
+    slice-aggregate-passes
+    passes-requires
     (λ c κs. search needs)
     (λ c. search needs)
     returns-2

@@ -15,13 +15,13 @@ returns c =
     let p₂ = p₁ .before .before in
     record { many = p₂ .narrow-boxes .ensures .0; counted = refl; stands = settle-conflict _ _ _ _ (p₂ .narrow-boxes .ensures .1) (p₁ .is-conflict .ensures) _ (c .if1 .taken) }
 
-slice-aggregate-check-constraint : tie.Need-slice-aggregate-check-constraint
-slice-aggregate-check-constraint c =
+slice-aggregate-passes : tie.Need-slice-aggregate-passes
+slice-aggregate-passes c =
     let p₁ = c .before in
     sym (middle-length _ _ (p₁ .midpoints .ensures))
 
-check-constraint-requires : tie.Need-check-constraint-requires
-check-constraint-requires c κs =
+passes-requires : tie.Need-passes-requires
+passes-requires c κs =
     let p₁ = c .before .before in
     let p₂ = p₁ .before .before .before .before in
     let p₃ = p₂ .before .before .before .before .before in
@@ -38,7 +38,7 @@ returns-2 c =
     record {
       many = p₅ .narrow-boxes .ensures .0;
       counted = refl;
-      stands = settle-passed _ _ _ _ (p₅ .narrow-boxes .ensures .1) (p₄ .is-conflict .ensures) (p₃ .if1 .left) (middle-checked _ _ (p₂ .midpoints .ensures) _ _ (p₁ .check-constraint .ensures)) _ (c .if2 .taken);
+      stands = settle-passed _ _ _ _ (p₅ .narrow-boxes .ensures .1) (p₄ .is-conflict .ensures) (p₃ .if1 .left) (middle-checked _ _ (p₂ .midpoints .ensures) _ _ (p₁ .passes .ensures)) _ (c .if2 .taken);
     }
 
 slice-aggregate-distance : tie.Need-slice-aggregate-distance
@@ -52,7 +52,7 @@ distance-requires c κs =
     let p₂ = p₁ .before .before .before in
     let p₃ = p₂ .before .before .before .before in
     let p₄ = p₃ .before .before .before .before .before in
-    (p₄ .pre .0, record { few = omega (arith, middle-length _ _ (p₂ .midpoints .ensures), p₄ .pre .1 .few, p₃ .narrow-boxes .ensures .0); long = λ i v. omega (arith, p₁ .check-constraint .kept .1 .1 .1 .1 .1 .1 .0, p₄ .pre .1 .long i v) })
+    (p₄ .pre .0, record { few = omega (arith, middle-length _ _ (p₂ .midpoints .ensures), p₄ .pre .1 .few, p₃ .narrow-boxes .ensures .0); long = λ i v. omega (arith, p₁ .passes .kept .1 .1 .1 .1 .1 .0, p₄ .pre .1 .long i v) })
 
 returns-3 : tie.Need-returns-3
 unfolding progressOf
@@ -70,7 +70,7 @@ returns-3 c =
       many = p₉ .narrow-boxes .ensures .0;
       counted = refl;
       stands =
-          settle-narrow _ _ _ _ (p₉ .narrow-boxes .ensures .1) (p₈ .is-conflict .ensures) (p₇ .if1 .left) (middle-checked _ _ (p₆ .midpoints .ensures) _ _ (p₅ .check-constraint .ensures)) _ (p₄ .if2 .left) (p₃ .all-below .ensures) (p₂ .if3 .taken)
+          settle-narrow _ _ _ _ (p₉ .narrow-boxes .ensures .1) (p₈ .is-conflict .ensures) (p₇ .if1 .left) (middle-checked _ _ (p₆ .midpoints .ensures) _ _ (p₅ .passes .ensures)) _ (p₄ .if2 .left) (p₃ .all-below .ensures) (p₂ .if3 .taken)
           (middle-distance _ _ (p₆ .midpoints .ensures) _ _ (p₁ .distance .ensures));
     }
 
@@ -87,7 +87,7 @@ returns-4 c =
     record {
       many = p₇ .narrow-boxes .ensures .0;
       counted = refl;
-      stands = settle-goes _ _ _ _ (p₇ .narrow-boxes .ensures .1) (p₆ .is-conflict .ensures) (p₅ .if1 .left) (middle-checked _ _ (p₄ .midpoints .ensures) _ _ (p₃ .check-constraint .ensures)) _ (p₂ .if2 .left) (p₁ .all-below .ensures) (c .if3 .left);
+      stands = settle-goes _ _ _ _ (p₇ .narrow-boxes .ensures .1) (p₆ .is-conflict .ensures) (p₅ .if1 .left) (middle-checked _ _ (p₄ .midpoints .ensures) _ _ (p₃ .passes .ensures)) _ (p₂ .if2 .left) (p₁ .all-below .ensures) (c .if3 .left);
     }
 
 pub settle-spec : {M : Type 1} → statement M
@@ -99,8 +99,8 @@ settle-spec =
     returns
     (λ c κs. search needs)
     (λ c. search needs)
-    slice-aggregate-check-constraint
-    check-constraint-requires
+    slice-aggregate-passes
+    passes-requires
     (λ c. search needs)
     returns-2
     (λ c κs. search needs)
