@@ -5,8 +5,6 @@ ghost use mathlib.Core.Bool.{_&&_};
 ghost use lib.Dec.{leb};
 ghost use lib.ListN.{length, getD};
 ghost use lib.Ieee.Scale.{finite};
-ghost use Rattle.maths.specs.Exp.{expOf};
-ghost use Rattle.maths.specs.Ln.{lnOf};
 ghost use Rattle.interval.specs.Interval.{_‥_, isEmpty, width, midpoint, contains, split, intersect, hull, exp, hasLn, ln, plus, minus, moves};
 ghost use Rattle.interval.specs.Boxes.{boxesOf, lows, highs, missing, starting, midpoints, allBelow, widest, padded, anyEmpty, allSound, arePaired, areBoxes};
 ghost use Rattle.interval.specs.Domain.{domainRefusal, domainNew, domainIsEmpty};
@@ -31,28 +29,6 @@ fn is_finite(x: f64) -> bool
     ensures { λ r. ⌜ r ≡ finite x ⌝ }
 {
     (-1.0 / 0.0 < x) & (x < 1.0 / 0.0)
-}
-
-// exp and ln of a point: 1, the value of One, comes often, and 0, its ln.
-fn exp_at(x: f64) -> f64
-    ensures { λ r. ⌜ r ≡ expOf x ⌝ }
-{
-    if x == 0.0 {
-        return 1.0;
-    }
-    if x == 1.0 {
-        return f64::from_bits(0x4005BF0A8B14576A);
-    }
-    maths::exp(x)
-}
-
-fn ln_at(x: f64) -> f64
-    ensures { λ r. ⌜ r ≡ lnOf x ⌝ }
-{
-    if x == 1.0 {
-        return 0.0;
-    }
-    maths::ln(x)
 }
 
 impl Interval {
@@ -125,7 +101,7 @@ impl Interval {
         ensures { λ r. ⌜ r ≡ exp self ⌝ }
     {
         if self.lo == self.hi {
-            return Self::point(exp_at(self.lo));
+            return Self::point(maths::quick_exp(self.lo));
         }
         Self::new(maths::exp(self.lo), maths::exp(self.hi))
     }
@@ -144,7 +120,7 @@ impl Interval {
             return Self::new(1.0 / 0.0, -1.0 / 0.0);
         }
         if self.lo == self.hi {
-            return Self::point(ln_at(self.lo));
+            return Self::point(maths::quick_ln(self.lo));
         }
         Self::new(maths::ln(self.lo), maths::ln(self.hi))
     }

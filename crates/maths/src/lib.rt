@@ -153,6 +153,28 @@ pub fn ln(x: f64) -> f64
     }
 }
 
+// exp and ln where 1, the value of One, comes often, and 0, its ln.
+pub fn quick_exp(x: f64) -> f64
+    ensures { λ r. ⌜ r ≡ expOf x ⌝ }
+{
+    if x == 0.0 {
+        return 1.0;
+    }
+    if x == 1.0 {
+        return f64::from_bits(0x4005BF0A8B14576A);
+    }
+    exp(x)
+}
+
+pub fn quick_ln(x: f64) -> f64
+    ensures { λ r. ⌜ r ≡ lnOf x ⌝ }
+{
+    if x == 1.0 {
+        return 0.0;
+    }
+    ln(x)
+}
+
 fn sin_sum(w: f64) -> f64
     ensures { λ r. ⌜ r ≡ series (sinStep w) 8 (whole 1) ⌝ }
 {
@@ -320,7 +342,7 @@ fn at_angle(e: f64, angle: f64) -> Complex
 pub fn complex_exp(z: Complex) -> Complex
     ensures { λ r. ⌜ r ≡ complexExp z ⌝ }
 {
-    at_angle(exp(z.re), z.im)
+    at_angle(quick_exp(z.re), z.im)
 }
 
 fn log_size(m: f64, q: f64) -> f64
@@ -345,7 +367,7 @@ pub fn complex_ln(z: Complex) -> Complex
     let re = z.re;
     let im = z.im;
     if im == 0.0 {
-        let size = ln(number::abs(re));
+        let size = quick_ln(number::abs(re));
         if number::sign_bit(re) {
             let pi = f64::from_bits(0x400921FB54442D18);
             if number::sign_bit(im) {

@@ -23,7 +23,7 @@ returns c =
     let l = t .before .before in
     let p = sym (c .before .sign-bit2 .ensures) ∙ c .if3 .taken in
     let q = sym (t .before .sign-bit .ensures) ∙ t .if2 .taken in
-    simp (zero-is, l .before .before .if1 .taken, p, q) (cc (l .ln .ensures, l .before .abs .ensures))
+    simp (zero-is, l .before .before .if1 .taken, p, q) (cc (l .quick-ln .ensures, l .before .abs .ensures))
 
 returns-2 : tie.Need-returns-2
 unfolding complexLn realLn if_then_else_
@@ -32,14 +32,14 @@ returns-2 c =
     let l = t .before .before in
     let p = sym (c .before .sign-bit2 .ensures) ∙ c .if3 .left in
     let q = sym (t .before .sign-bit .ensures) ∙ t .if2 .taken in
-    simp (zero-is, l .before .before .if1 .taken, p, q) (cc (l .ln .ensures, l .before .abs .ensures))
+    simp (zero-is, l .before .before .if1 .taken, p, q) (cc (l .quick-ln .ensures, l .before .abs .ensures))
 
 returns-3 : tie.Need-returns-3
 unfolding complexLn realLn if_then_else_
 returns-3 c =
     let l = c .before .before in
     let q = sym (c .before .sign-bit .ensures) ∙ c .if2 .left in
-    simp (zero-is, l .before .before .if1 .taken, q) (cc (l .ln .ensures, l .before .abs .ensures))
+    simp (zero-is, l .before .before .if1 .taken, q) (cc (l .quick-ln .ensures, l .before .abs .ensures))
 
 returns-4 : tie.Need-returns-4
 unfolding complexLn otherLn if_then_else_

@@ -9,7 +9,7 @@ use Rattle.interval.proofs.Points.{point-exp}
 returns : tie.Need-returns
 returns c =
     let f = c .before .before .before .struct-known .given in
-    c .point .ensures ∙ point-exp _ (f .0) (f .1 .0) (c .before .before .if1 .taken) _ (c .before .exp-at .ensures)
+    c .point .ensures ∙ point-exp _ (f .0) (f .1 .0) (c .before .before .if1 .taken) _ (c .before .quick-exp .ensures)
 
 returns-2 : tie.Need-returns-2
 unfolding exp

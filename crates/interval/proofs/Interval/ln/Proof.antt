@@ -21,7 +21,7 @@ returns-2 c =
     let p₄ = p₃ .before in
     let p₅ = p₄ .before in
     let f = p₃ .struct-known .given in
-    c .point .ensures ∙ point-ln _ (f .0) (f .1 .0) (p₂ .if2 .taken) _ (sym (p₅ .has-ln .ensures) ∙ not-false _ (p₄ .if1 .left)) (p₁ .ln-at .ensures)
+    c .point .ensures ∙ point-ln _ (f .0) (f .1 .0) (p₂ .if2 .taken) _ (sym (p₅ .has-ln .ensures) ∙ not-false _ (p₄ .if1 .left)) (p₁ .quick-ln .ensures)
 
 returns-3 : tie.Need-returns-3
 unfolding ln if_then_else_
