@@ -147,9 +147,9 @@ static inline const char *eml_stop_word(uint8_t stop) {
 
 /*
  * Solves a house file. An assignment has its values in the first `count` places of `point`, and `exact` says whether it is
- * exact; any other answer has its residual in `residual`, and no values. `halvings` is how many halves were written, at most
- * `limit`. Refused with 1 to 8, and with 10 where `point` has fewer places than the constraint has variables; 16 are enough for
- * every file.
+ * exact; its `residual` is +0. Any other answer has its residual in `residual`, and no values; its `exact` is false. `halvings`
+ * is how many halves were written, at most `limit`. Refused with 1 to 8, and with 10 where `point` has fewer places than the
+ * constraint has variables; 16 are enough for every file.
  */
 uint8_t eml_solve_file(const uint8_t *file, size_t length, size_t limit, double tolerance, uint8_t *stop, bool *exact,
                        double *residual, size_t *halvings, size_t *count, double *point, size_t point_length);

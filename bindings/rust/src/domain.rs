@@ -6,7 +6,7 @@ use crate::{Bounds, Interval, List, Refusal, calls};
 /// One interval for each variable: the source's `IntervalDomain`.
 ///
 /// ```
-/// use eml::{Interval, IntervalDomain, Records};
+/// use eml::{Interval, IntervalDomain};
 ///
 /// let mut domain = IntervalDomain::new(&[Interval::new(1.0, 3.0)], 2)?;
 /// assert_eq!(*domain.vars, [Interval::new(1.0, 3.0), Interval::new(-10.0, 10.0)]);

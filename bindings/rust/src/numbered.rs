@@ -1,4 +1,4 @@
-//! Enumerations that document 01 numbers.
+//! Enumerations by number: document 01's, or the order in which it names them.
 
 use core::fmt;
 
@@ -39,4 +39,4 @@ macro_rules! try_from_number {
 pub(crate) use try_from_number;
 
 /// Why the library's own numbers are known: its contracts name them.
-pub(crate) const LIBRARY: &str = "the library writes document 01's numbers only";
+pub(crate) const LIBRARY: &str = "the library writes the numbers of its contracts only";

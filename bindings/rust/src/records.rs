@@ -57,7 +57,7 @@ impl<'a> Records<'a> {
     /// The nodes, in order.
     ///
     /// ```
-    /// use eml::{Constraint, Node, Problem};
+    /// use eml::{Node, Problem};
     ///
     /// let file = std::fs::read("../../examples/positive.emlq")?;
     /// let records = Problem::from_bytes(&file)?.records();

@@ -46,9 +46,9 @@ pub struct Solution {
     /// The assignment; no other answer has values.
     pub point: Point,
     /// Whether the assignment is exact: there are no variables, or the limit is above 0 and the box was narrower than the
-    /// tolerance before any halving.
+    /// tolerance before any halving. False for any other answer.
     pub exact: bool,
-    /// The residual of any answer but an assignment; +inf for conflict and unsatisfied.
+    /// The residual of any answer but an assignment, which has +0; +inf for conflict and unsatisfied.
     pub residual: f64,
     /// How many halves were written, at most the limit.
     pub halvings: usize,

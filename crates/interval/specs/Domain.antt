@@ -10,7 +10,7 @@ use Rattle.record.specs.Leaving.{Leaving, _leaving_}
 use Rattle.record.specs.Refusal.{_or-else_, _unless_, refusedOr}
 use Rattle.interval.specs.Boxes.{starting, anyEmpty, intervals, lows, highs, arePaired, areBoxes}
 
--- 9: no boxes, or over 16 variables; 10: fewer places for an end than variables
+-- 9: what is no list of boxes, or over 16 variables; 10: fewer places for an end than variables
 unfoldable pub domainRefusal : List Float → List Float → ℕ → ℕ → ℕ → ℕ
 domainRefusal lo hi n room other = 9 unless areBoxes lo hi && leb n 16 or-else 10 unless leb n room && leb n other
 

@@ -1,5 +1,5 @@
 -- Demand 3 of what the exported calls leave in the lent places, and the count of halvings. A call returns 0, or a refusal's number; `Solves` in
--- eml/specs/Places is the contract of those that solve. The numbers of the stop words are document 01's (`stopNumber`). Assumes nothing.
+-- eml/specs/Places is the contract of those that solve. The numbers of the stop words follow document 01's order (`stopNumber`). Assumes nothing.
 use mathlib.Core.Path.{_≡_, sym, subst}
 use Prim.Native.Nat.{ℕ, _≤_}
 use mathlib.Core.List.{List}

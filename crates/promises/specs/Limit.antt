@@ -9,47 +9,47 @@ use Rattle.interval.specs.declared.Interval.{Interval}
 use Rattle.nra.specs.Solver.{Problem, Answer, assignment, failed, halvingsOf, reached, State, Progress, Stopped, Going, beginChecked, beginNarrowed, beginEmpty, beginIn, beginAt, begin, settleChecked, settleNarrowed, settleIn, halve, steps, finish, run, untried, solve}
 
 -- a run that has made h halvings, and has not stopped at the limit
-data Counted (h : ℕ) : Progress → Type 0 where
-  stopped : {a : Answer} → halvingsOf a ≡ h → reached a ≡ false → Counted h (Stopped a)
-  going : {s : State} → s .halvings ≡ h → Counted h (Going s)
+data Made (h : ℕ) : Progress → Type 0 where
+  stopped : {a : Answer} → halvingsOf a ≡ h → reached a ≡ false → Made h (Stopped a)
+  going : {s : State} → s .halvings ≡ h → Made h (Going s)
 
 module _ (σ : Settings) (p : Problem) (bounds : List Interval) where
-  settleChecked-counted : (h : ℕ) (b : List Interval) (passes narrow : Bool) → Counted h (settleChecked σ p h b passes narrow)
+  settleChecked-counted : (h : ℕ) (b : List Interval) (passes narrow : Bool) → Made h (settleChecked σ p h b passes narrow)
   unfolding settleChecked
   settleChecked-counted h b true n = stopped refl refl
   settleChecked-counted h b false true = stopped refl refl
   settleChecked-counted h b false false = going refl
 
-  settleNarrowed-counted : (h : ℕ) (conflict : Bool) (b : List Interval) → Counted h (settleNarrowed σ p h conflict b)
+  settleNarrowed-counted : (h : ℕ) (conflict : Bool) (b : List Interval) → Made h (settleNarrowed σ p h conflict b)
   unfolding settleNarrowed
   settleNarrowed-counted h true b = stopped refl refl
   settleNarrowed-counted h false b = settleChecked-counted h b _ _
 
-  halve-counted : (s : State) → Counted (suc (s .halvings)) (halve σ p s)
+  halve-counted : (s : State) → Made (suc (s .halvings)) (halve σ p s)
   unfolding halve settleIn
   halve-counted s = settleNarrowed-counted (suc (s .halvings)) _ _
 
-  beginChecked-counted : (b : List Interval) (passes : Bool) → Counted 0 (beginChecked p b passes)
+  beginChecked-counted : (b : List Interval) (passes : Bool) → Made 0 (beginChecked p b passes)
   unfolding beginChecked
   beginChecked-counted b true = stopped refl refl
   beginChecked-counted b false = going refl
 
-  beginNarrowed-counted : (conflict : Bool) (b : List Interval) → Counted 0 (beginNarrowed σ p conflict b)
+  beginNarrowed-counted : (conflict : Bool) (b : List Interval) → Made 0 (beginNarrowed σ p conflict b)
   unfolding beginNarrowed
   beginNarrowed-counted true b = stopped refl refl
   beginNarrowed-counted false b = beginChecked-counted b _
 
-  beginEmpty-counted : (passes : Bool) → Counted 0 (Stopped (beginEmpty passes))
+  beginEmpty-counted : (passes : Bool) → Made 0 (Stopped (beginEmpty passes))
   unfolding beginEmpty
   beginEmpty-counted true = stopped refl refl
   beginEmpty-counted false = stopped refl refl
 
-  beginAt-counted : (v : ℕ) → Counted 0 (beginAt σ p bounds v)
+  beginAt-counted : (v : ℕ) → Made 0 (beginAt σ p bounds v)
   unfolding beginAt beginIn
   beginAt-counted zero = beginEmpty-counted _
   beginAt-counted (suc v) = beginNarrowed-counted _ _
 
-  begin-counted : Counted 0 (begin σ p bounds)
+  begin-counted : Made 0 (begin σ p bounds)
   unfolding begin
   begin-counted = beginAt-counted _
 
@@ -63,12 +63,12 @@ module _ (σ : Settings) (p : Problem) (bounds : List Interval) where
     pub at-most : halvingsOf a ≤ L
     pub limit-itself : reached a ≡ true → halvingsOf a ≡ L
 
-  run-counts : (n : ℕ) {L h : ℕ} {g : Progress} → L ≡ h + n → Counted h g → Counts L (run σ p n g)
+  run-counts : (n : ℕ) {L h : ℕ} {g : Progress} → L ≡ h + n → Made h g → Counts L (run σ p n g)
   unfolding run steps finish
   run-counts zero q (stopped e l) = record { at-most = omega (arith, e); limit-itself = λ r. absurd (false≢true (sym l ∙ r)) }
   run-counts zero q (going e) = record { at-most = omega (arith, e); limit-itself = λ r. omega (arith, e) }
   run-counts (suc n) q (stopped e l) = record { at-most = omega (arith, e); limit-itself = λ r. absurd (false≢true (sym l ∙ r)) }
-  run-counts (suc n) q (going {s} e) = run-counts n (omega arith) (subst (λ (x : ℕ). Counted (suc x) (halve σ p s)) e (halve-counted s))
+  run-counts (suc n) q (going {s} e) = run-counts n (omega arith) (subst (λ (x : ℕ). Made (suc x) (halve σ p s)) e (halve-counted s))
 
   untried-counts : (v L : ℕ) (a : Answer) → Counts L a → Counts L (untried v a)
   unfolding untried
@@ -111,12 +111,12 @@ module _ (σ : Settings) (p : Problem) (bounds : List Interval) where
       early′ zero k = (refl, omega arith)
       early′ (suc m) k = let r = e .early m (omega arith) in (r .0, omega (arith, r .1))
 
-  ends : (n : ℕ) {h : ℕ} {g : Progress} → Counted h g → reached (run σ p n g) ≡ false → Ends h n g
+  ends : (n : ℕ) {h : ℕ} {g : Progress} → Made h g → reached (run σ p n g) ≡ false → Ends h n g
   unfolding run steps finish
   ends zero {h} (stopped {a} e l) r = ends-stopped h zero a e
   ends zero (going e) r = absurd (false≢true (sym r))
   ends (suc n) {h} (stopped {a} e l) r = ends-stopped h (suc n) a e
-  ends (suc n) {h} (going {s} e) r = ends-going n h s e (ends n (subst (λ (x : ℕ). Counted (suc x) (halve σ p s)) e (halve-counted s)) r)
+  ends (suc n) {h} (going {s} e) r = ends-going n h s e (ends n (subst (λ (x : ℕ). Made (suc x) (halve σ p s)) e (halve-counted s)) r)
 
   -- The answer under a limit L of at least 1, where it is not "limit" and has h halvings: under any other limit of at least h the same answer
   -- comes, and under one below h "limit" comes, with that many halvings.
