@@ -10,7 +10,7 @@ use borrow.Author.Tests.{le-leb, lt-leb, eq-eqb, ne_eqb}
 use lib.Dec.{eqb}
 use lib.ListN.{length, get_or, take, drop, set, length-append, length-drop}
 use lib.Seq.{length-take-le}
-use Rattle.record.specs.Refusal.{◌or-else◌, ◌unless◌, first, filled}
+use Rattle.record.specs.Refusal.{◌or_else◌, ◌unless◌, first, filled}
 use Rattle.record.specs.RefusalLaws.{none_more, passing_all, first_here, passing_here, filled_more}
 use Rattle.constraint.specs.Constraint.{Formula, levels, levels_all, quantifiers, quantifiers_all}
 use Rattle.constraint.specs.Records.{record_at, is_record, is_ranged, takes, gather, none, finish, finished, formula_at, record_refusal, records_refusal}

@@ -2,7 +2,7 @@
 use Rattle.std.specs.Prelude.{ℕ, ◌+◌, ◌*◌, List, leb, length}
 use Rattle.std.proofs.lemmas.List.Edits.{sets}
 use Rattle.record.specs.Leaving.{Leaving, ◌leaving◌}
-use Rattle.record.specs.Refusal.{◌or-else◌, ◌unless◌, refused_or}
+use Rattle.record.specs.Refusal.{◌or_else◌, ◌unless◌, refused_or}
 use Rattle.tree.specs.Encoding.{nodes_bytes}
 use Rattle.tree.specs.Canonical.{sub_nodes, sub_refusal}
 use Rattle.tree.specs.declared.Appended.{Appended}

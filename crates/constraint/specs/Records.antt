@@ -4,7 +4,7 @@ use Rattle.std.specs.Float.{binary64}
 use Rattle.number.specs.Notation.{if◌then◌else◌}
 use Rattle.number.specs.Sound.{sound}
 use Rattle.record.specs.Bytes.{u32_at, u64_at, f64_at}
-use Rattle.record.specs.Refusal.{◌or-else◌, ◌unless◌, first}
+use Rattle.record.specs.Refusal.{◌or_else◌, ◌unless◌, first}
 use Rattle.tree.specs.Nodes.{tree_at}
 use Rattle.constraint.specs.Constraint.{Formula, Formulas, Constraint, Atom, Not, And, Or, ForAll, Exists, end, ◌⨾◌, map_formula, levels, quantifiers}
 use Rattle.constraint.specs.declared.Relation.{Relation}

@@ -15,7 +15,7 @@ ghost use Rattle.record.specs.Views.{old, final};
 use tree::Appended;
 
 // How an atom compares its tree's value with zero.
-#[derive(Drop)]
+#[derive(Clone, Copy)]
 pub enum Relation {
     EqZero,
     GtZero,
@@ -26,7 +26,7 @@ pub enum Relation {
 }
 
 // What a record says: an atom its node, And and Or how many they take, a quantifier its variable, lo and hi.
-#[derive(Drop)]
+#[derive(Clone, Copy)]
 pub enum Record {
     Atom(Relation, usize),
     Not,
@@ -52,7 +52,7 @@ fn relation_of(kind: u32) -> Relation
 // Record k, read with no test.
 pub fn record_in(constraints: &[u8], k: usize) -> Record
     requires { 24 * k + 24 ≤ length constraints.now }
-    ensures { result ≡ record_at (old constraints) k }
+    ensures { result ≡ record_at constraints.now k }
 {
     let at = 24 * k;
     let kind = record::read_u32(constraints, at);
@@ -80,7 +80,7 @@ pub fn record_in(constraints: &[u8], k: usize) -> Record
 // Whether record k is a constraint's, over count nodes.
 pub fn is_record(constraints: &[u8], k: usize, count: usize) -> bool
     requires { 24 * k + 24 ≤ length constraints.now }
-    ensures { result ≡ is_record count (old constraints) k }
+    ensures { result ≡ is_record count constraints.now k }
 {
     let at = 24 * k;
     let kind = record::read_u32(constraints, at);
@@ -144,7 +144,7 @@ fn quantifier_of(r: Record) -> usize
 // The greatest of the elements from..to, and 0 of none.
 fn greatest_of(a: &[u8; 256], from: usize, to: usize) -> usize
     requires { (from ≤ to) × (to ≤ 256) × (length a.now ≡ 256) }
-    ensures { (result ≡ greatest (part from to (old a))) × (result < 256) }
+    ensures { (result ≡ greatest (part from to a.now)) × (result < 256) }
 {
     let mut r: usize = 0;
     let mut j = from;
@@ -156,7 +156,7 @@ fn greatest_of(a: &[u8; 256], from: usize, to: usize) -> usize
 }
 
 // A constraint's depth, and the most quantifiers on a path of it.
-#[derive(Drop)]
+#[derive(Clone, Copy)]
 struct Nesting {
     depth: usize,
     quantifiers: usize,
@@ -171,7 +171,7 @@ fn nesting_of(
     r: Record,
 ) -> Nesting
     requires { (base ≤ top) × (top ≤ 256) × (length depth.now ≡ 256) × (length quantifiers.now ≡ 256) }
-    ensures { (result.depth ≡ 1 + greatest (part base top (old depth))) × (result.quantifiers ≡ binds r + greatest (part base top (old quantifiers))) }
+    ensures { (result.depth ≡ 1 + greatest (part base top depth.now)) × (result.quantifiers ≡ binds r + greatest (part base top quantifiers.now)) }
 {
     let deepest = greatest_of(depth, base, top);
     let most = greatest_of(quantifiers, base, top);
@@ -184,7 +184,7 @@ fn nesting_of(
 // The first of the elements base..top, or k where there is none.
 fn first_of(a: &[u8; 256], base: usize, top: usize, k: usize) -> usize
     requires { (top ≤ 256) × (k < 256) × (length a.now ≡ 256) }
-    ensures { (result ≡ get_or (part base top (old a)) 0 k) × (result < 256) }
+    ensures { (result ≡ get_or (part base top a.now) 0 k) × (result < 256) }
 {
     if base < top {
         return record::wide(a[base]) as usize;
@@ -196,8 +196,8 @@ fn first_of(a: &[u8; 256], base: usize, top: usize, k: usize) -> usize
 // quantifiers and the first record of each finished constraint are on a stack; `starts` gets the first record of each that passes.
 pub fn test_records(constraints: &[u8], n: usize, count: usize, starts: &mut [usize; 256]) -> u8
     requires { (n ≤ 256) × (24 * n ≤ length constraints.now) × (length starts.old ≡ 256) }
-    ensures value { result ≡ records_refusal count (old constraints) n }
-    ensures starts_value { final starts ≡ starts_of count (old constraints) n (old starts) }
+    ensures value { result ≡ records_refusal count constraints.now n }
+    ensures starts_value { final starts ≡ starts_of count constraints.now n (old starts) }
 {
     let mut depth = [0u8; 256];
     let mut quantifiers = [0u8; 256];
@@ -243,7 +243,7 @@ pub fn test_records(constraints: &[u8], n: usize, count: usize, starts: &mut [us
 // What a record names itself: an atom's variables, or the quantified one.
 fn own_vars(nodes: &[u8], r: Record) -> usize
     requires { Named nodes.now r }
-    ensures { result ≡ own_vars (old nodes) r }
+    ensures { result ≡ own_vars nodes.now r }
 {
     match r {
         Record::Atom(_, i) => tree::num_vars(nodes, i),

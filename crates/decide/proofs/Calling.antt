@@ -9,7 +9,7 @@ use lib.Dec.{leb}
 use lib.Ieee.{Float, binary64}
 use lib.ListN.{length}
 use Rattle.number.specs.Sound.{sound}
-use Rattle.record.specs.Refusal.{◌or-else◌, ◌unless◌}
+use Rattle.record.specs.Refusal.{◌or_else◌, ◌unless◌}
 use Rattle.record.specs.RefusalLaws.{none_both, or_else_refused}
 use Rattle.constraint.specs.Constraint.{Constraint}
 use Rattle.file.specs.File.{left, given_refusal, read_given}

@@ -9,7 +9,7 @@ use Rattle.settings.specs.declared.Settings.{Settings}
 use Rattle.interval.specs.declared.Interval.{Interval}
 use Rattle.interval.specs.Interval.{◌‥◌}
 use Rattle.interval.specs.Boxes.{padded}
-use Rattle.record.specs.Refusal.{◌or-else◌, ◌unless◌, refused_or}
+use Rattle.record.specs.Refusal.{◌or_else◌, ◌unless◌, refused_or}
 use Rattle.constraint.specs.Constraint.{Constraint, Not}
 use Rattle.normal.specs.NormalForm.{to_nnf}
 use Rattle.file.specs.File.{Read, Refused, Accepted, read_given}

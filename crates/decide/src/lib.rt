@@ -1,6 +1,6 @@
 // `decide_forall` and `decide_exists` (document 01, "The rest"; helpers.rs): propagation of the negation, and samples in order.
 ghost use Rattle.std.specs.Prelude.{◌≡◌, ◌+◌, ◌≤◌, [], length};
-ghost use Rattle.record.specs.Refusal.{◌or-else◌};
+ghost use Rattle.record.specs.Refusal.{◌or_else◌};
 ghost use Rattle.settings.specs.Settings.{usual};
 ghost use Rattle.interval.specs.Boxes.{boxes_of, padded};
 ghost use Rattle.constraint.specs.Starts.{Ready};
@@ -16,7 +16,7 @@ use narrow::Mode;
 use point::helpers::check_constraint;
 use settings::Settings;
 
-#[derive(Drop)]
+#[derive(Clone, Copy)]
 pub enum Verdict {
     True,
     TrueWithWitness,
@@ -54,7 +54,7 @@ fn refused(n: u8) -> Decided
 // ---- the samples
 
 // What is asked: of the constraint of that record, about variable `var` of `count`.
-#[derive(Drop)]
+#[derive(Clone, Copy)]
 pub struct Question {
     pub root: usize,
     pub settings: Settings,
@@ -140,7 +140,7 @@ fn answers_at(
 }
 
 // The first sample that meets a test.
-#[derive(Drop)]
+#[derive(Clone, Copy)]
 pub enum Found {
     Nowhere,
     At(f64),
@@ -156,7 +156,7 @@ fn first_sample(
 ) -> Found
     requires ready { Ready nodes.now constraints.now (q.root + 1) starts.now }
     requires count_bound { q.count ≤ 16 }
-    ensures { result ≡ first (answers_at q wanted (the nodes constraints q.root)) (old samples) }
+    ensures { result ≡ first (answers_at q wanted (the nodes constraints q.root)) samples.now }
 {
     let mut order = [0u16; 4096];
     let mut i: usize = 0;
@@ -273,8 +273,8 @@ fn decision_refusal(
     starts: &mut [usize; 256],
 ) -> u8
     requires { length starts.old ≡ 256 }
-    ensures value { result ≡ (given_refusal (old nodes) (old constraints) or_else later_refusal lo hi num_vars room) }
-    ensures starts_value { final starts ≡ given_starts (old nodes) (old constraints) (old starts) }
+    ensures value { result ≡ (given_refusal nodes.now constraints.now or_else later_refusal lo hi num_vars room) }
+    ensures starts_value { final starts ≡ given_starts nodes.now constraints.now (old starts) }
 {
     let r = file::test_given(nodes, constraints, starts);
     if r != 0 {
@@ -299,7 +299,7 @@ pub fn decide_forall(
     num_vars: usize,
     room: usize,
 ) -> Decided
-    ensures { result ≡ decide_forall_given usual (old nodes) (old constraints) var lo hi num_vars room }
+    ensures { result ≡ decide_forall_given usual nodes.now constraints.now var lo hi num_vars room }
 {
     let mut starts = [0usize; 256];
     let r = decision_refusal(nodes, constraints, lo, hi, num_vars, room, &mut starts);
@@ -326,7 +326,7 @@ pub fn decide_exists(
     num_vars: usize,
     room: usize,
 ) -> Decided
-    ensures { result ≡ decide_exists_given usual (old nodes) (old constraints) var lo hi num_vars room }
+    ensures { result ≡ decide_exists_given usual nodes.now constraints.now var lo hi num_vars room }
 {
     let mut starts = [0usize; 256];
     let r = decision_refusal(nodes, constraints, lo, hi, num_vars, room, &mut starts);

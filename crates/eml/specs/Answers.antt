@@ -1,7 +1,7 @@
 -- What an exported call returns and leaves in the lent places, from the answer of the function behind it: 0 with what the answer holds, or a
 -- refusal's number with the places as they were.
 use Rattle.std.specs.Prelude.{ℕ, Bool, Float}
-use Rattle.std.specs.Borrow.{Bor}
+use Rattle.std.specs.Borrow.{MutBor}
 use denote.Triple.Both.{Both}
 use Rattle.record.specs.Leaving.{Leaving, ◌leaving◌}
 use Rattle.tree.specs.declared.Appended.{Appended}
@@ -63,7 +63,7 @@ evaluated (EvalAnswer.Refused r) old = r leaving old
 evaluated (EvalAnswer.Value v) old = 0 leaving evaluation 0 v old.index old.count
 evaluated (EvalAnswer.Failed e) old = 0 leaving failed e old
 
-module _ (kind : Both (Bor ℕ) (Bor ℕ)) (value : Both (Bor Float) (Bor Float)) (index count : Both (Bor ℕ) (Bor ℕ)) where
+module _ (kind : Both (MutBor ℕ) (MutBor ℕ)) (value : Both (MutBor Float) (MutBor Float)) (index count : Both (MutBor ℕ) (MutBor ℕ)) where
   abbrev pub evaluation_before : Evaluation
   evaluation_before = evaluation (old kind) (old value) (old index) (old count)
 

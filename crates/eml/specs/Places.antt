@@ -2,7 +2,7 @@
 -- point's values come to the first places, and those after them stay.
 use Rattle.std.specs.Prelude.{ℕ, Bool, ◌≡◌, List, Float}
 use Rattle.std.proofs.Math.Seq.{paste}
-use Rattle.std.specs.Borrow.{Bor}
+use Rattle.std.specs.Borrow.{MutBor}
 use denote.Triple.Both.{Both}
 use Rattle.record.specs.Leaving.{Leaving, ◌leaving◌}
 use Rattle.record.specs.Refusal.{refused_or}
@@ -31,7 +31,7 @@ solution_of s point =
 abbrev pub solved : Solved → Solution → Leaving ℕ Solution
 solved s old = unless_refused s.refusal (solution_of s old.point) old
 
-module _ (stop : Both (Bor ℕ) (Bor ℕ)) (exact : Both (Bor Bool) (Bor Bool)) (residual : Both (Bor Float) (Bor Float)) (halvings count : Both (Bor ℕ) (Bor ℕ)) (point : Both (Bor (List Float)) (Bor (List Float))) where
+module _ (stop : Both (MutBor ℕ) (MutBor ℕ)) (exact : Both (MutBor Bool) (MutBor Bool)) (residual : Both (MutBor Float) (MutBor Float)) (halvings count : Both (MutBor ℕ) (MutBor ℕ)) (point : Both (MutBor (List Float)) (MutBor (List Float))) where
   abbrev pub solution_before : Solution
   solution_before =
       record { stop = old stop; exact = old exact; residual = old residual; halvings = old halvings; count = old count; point = old point }
@@ -56,7 +56,7 @@ decision_of d point = record { verdict = verdict_number d.verdict; count = d.cou
 abbrev pub decided : Decided → Decision → Leaving ℕ Decision
 decided d old = unless_refused d.refusal (decision_of d old.point) old
 
-module _ (verdict count : Both (Bor ℕ) (Bor ℕ)) (point : Both (Bor (List Float)) (Bor (List Float))) where
+module _ (verdict count : Both (MutBor ℕ) (MutBor ℕ)) (point : Both (MutBor (List Float)) (MutBor (List Float))) where
   abbrev pub decision_before : Decision
   decision_before = record { verdict = old verdict; count = old count; point = old point }
 

@@ -48,7 +48,7 @@ pub extern "C" fn eml_decide_forall(
     count: &mut usize,
     point: &mut [f64],
 ) -> u8
-    ensures { Decides verdict count point result (decide_forall_given usual (old nodes) (old constraints) var lo hi num_vars (length (old point))) }
+    ensures { Decides verdict count point result (decide_forall_given usual nodes.now constraints.now var lo hi num_vars (length (old point))) }
 {
     let answer = decide::decide_forall(nodes, constraints, var, lo, hi, num_vars, point.len());
     write_decided(answer, verdict, count, point)
@@ -67,7 +67,7 @@ pub extern "C" fn eml_decide_exists(
     count: &mut usize,
     point: &mut [f64],
 ) -> u8
-    ensures { Decides verdict count point result (decide_exists_given usual (old nodes) (old constraints) var lo hi num_vars (length (old point))) }
+    ensures { Decides verdict count point result (decide_exists_given usual nodes.now constraints.now var lo hi num_vars (length (old point))) }
 {
     let answer = decide::decide_exists(nodes, constraints, var, lo, hi, num_vars, point.len());
     write_decided(answer, verdict, count, point)

@@ -13,7 +13,7 @@ pub extern "C" fn eml_domain_new(
     out_lo: &mut [f64],
     out_hi: &mut [f64],
 ) -> u8
-    ensures { (result leaving (final out_lo, final out_hi)) ≡ domain_new (old lo) (old hi) num_vars (old out_lo) (old out_hi) }
+    ensures { (result leaving (final out_lo, final out_hi)) ≡ domain_new lo.now hi.now num_vars (old out_lo) (old out_hi) }
 {
     interval::domain_new(lo, hi, num_vars, out_lo, out_hi)
 }
@@ -21,7 +21,7 @@ pub extern "C" fn eml_domain_new(
 // Whether any interval is empty, to `out`. The ends may be any f64.
 #[unsafe(no_mangle)]
 pub extern "C" fn eml_domain_is_empty(lo: &[f64], hi: &[f64], out: &mut bool) -> u8
-    ensures { (result leaving final out) ≡ domain_is_empty (old lo) (old hi) (old out) }
+    ensures { (result leaving final out) ≡ domain_is_empty lo.now hi.now (old out) }
 {
     interval::domain_is_empty(lo, hi, out)
 }

@@ -41,7 +41,7 @@ pub extern "C" fn eml_propagate(
     hi: &mut [f64],
     answer: &mut u8,
 ) -> u8
-    ensures { (result leaving (final answer, (final lo, final hi))) ≡ writing propagated (propagate_given usual (old nodes) (old constraints) (old lo) (old hi)) (old answer) }
+    ensures { (result leaving (final answer, (final lo, final hi))) ≡ writing propagated (propagate_given usual nodes.now constraints.now (old lo) (old hi)) (old answer) }
 {
     let x = narrow::propagate_given(nodes, constraints, lo, hi);
     write_propagated(x, answer)
@@ -55,7 +55,7 @@ pub extern "C" fn eml_propagate_intervals(
     boxes: &mut [Interval],
     answer: &mut u8,
 ) -> u8
-    ensures { (result leaving (final answer, final boxes)) ≡ writing propagated (propagate_lent usual (old nodes) (old constraints) (old boxes)) (old answer) }
+    ensures { (result leaving (final answer, final boxes)) ≡ writing propagated (propagate_lent usual nodes.now constraints.now (old boxes)) (old answer) }
 {
     let x = lent::propagate(nodes, constraints, boxes);
     write_propagated(x, answer)

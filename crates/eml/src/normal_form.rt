@@ -15,7 +15,7 @@ pub extern "C" fn eml_to_nnf(
     out: &mut [u8],
     records: &mut usize,
 ) -> u8
-    ensures { (result leaving (final records, final out)) ≡ writing normalised (to_nnf_given (old nodes) (old constraints) (old out)) (old records) }
+    ensures { (result leaving (final records, final out)) ≡ writing normalised (to_nnf_given nodes.now constraints.now (old out)) (old records) }
 {
     match normal::to_nnf_given(nodes, constraints, out) {
         Nnf::Refused(number) => number,

@@ -17,7 +17,7 @@ pub extern "C" fn eml_check(
     point: &[f64],
     passes: &mut bool,
 ) -> u8
-    ensures { (result leaving final passes) ≡ checked (check_answer usual (old nodes) (old constraints) (old point)) (old passes) }
+    ensures { (result leaving final passes) ≡ checked (check_answer usual nodes.now constraints.now point.now) (old passes) }
 {
     match point::check_constraint(nodes, constraints, point) {
         CheckAnswer::Refused(number) => number,
@@ -31,7 +31,7 @@ pub extern "C" fn eml_check(
 // The point's residual, to `out`.
 #[unsafe(no_mangle)]
 pub extern "C" fn eml_residual(nodes: &[u8], constraints: &[u8], point: &[f64], out: &mut f64) -> u8
-    ensures { (result leaving final out) ≡ measured (residual_answer usual (old nodes) (old constraints) (old point)) (old out) }
+    ensures { (result leaving final out) ≡ measured (residual_answer usual nodes.now constraints.now point.now) (old out) }
 {
     match point::residual(nodes, constraints, point) {
         ResidualAnswer::Refused(number) => number,
@@ -83,7 +83,7 @@ pub extern "C" fn eml_eval_real(
     index: &mut usize,
     count: &mut usize,
 ) -> u8
-    ensures { (result leaving evaluation_after kind value index count) ≡ evaluated (eval_answer usual (old nodes) node (old point)) (evaluation_before kind value index count) }
+    ensures { (result leaving evaluation_after kind value index count) ≡ evaluated (eval_answer usual nodes.now node point.now) (evaluation_before kind value index count) }
 {
     match point::eval_real(nodes, node, point) {
         EvalAnswer::Refused(number) => number,

@@ -48,7 +48,7 @@ pub extern "C" fn eml_solve_file(
     count: &mut usize,
     point: &mut [f64],
 ) -> u8
-    ensures { Solves stop exact residual halvings count point result (solve_file usual (old file) limit tolerance (length (old point))) }
+    ensures { Solves stop exact residual halvings count point result (solve_file usual file.now limit tolerance (length (old point))) }
 {
     let s = nra::solve_file(file, limit, tolerance, point.len());
     write_solved(s, stop, exact, residual, halvings, count, point)
@@ -70,7 +70,7 @@ pub extern "C" fn eml_solve(
     count: &mut usize,
     point: &mut [f64],
 ) -> u8
-    ensures { Solves stop exact residual halvings count point result (solve_given usual (old nodes) (old constraints) (old lo) (old hi) limit tolerance (length (old point))) }
+    ensures { Solves stop exact residual halvings count point result (solve_given usual nodes.now constraints.now lo.now hi.now limit tolerance (length (old point))) }
 {
     let s = nra::solve(nodes, constraints, lo, hi, limit, tolerance, point.len());
     write_solved(s, stop, exact, residual, halvings, count, point)

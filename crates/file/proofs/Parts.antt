@@ -9,7 +9,7 @@ use lib.Dec.{eqb}
 use lib.ListN.{length, take, drop, length-drop}
 use lib.Seq.{take_all}
 use Rattle.number.specs.Notation.{if◌then◌else◌}
-use Rattle.record.specs.Refusal.{◌or-else◌, first}
+use Rattle.record.specs.Refusal.{◌or_else◌, first}
 use Rattle.record.specs.RefusalLaws.{or_else_refused, or_else_none}
 use Rattle.tree.specs.Nodes.{nodes_refusal, nodes_fit, list_refusal}
 use Rattle.tree.specs.Code.{list_largest}

@@ -1,7 +1,7 @@
 -- What a file's contents say of its parts, and what the tests leave in `starts`.
 use Rattle.std.specs.Prelude.{ℕ, ◌+◌, ◌*◌, ◌/◌, ◌≤◌, ◌≡◌, ◌&&◌, List, eqb, length}
 use Rattle.number.specs.Notation.{if◌then◌else◌}
-use Rattle.record.specs.Refusal.{◌or-else◌, first}
+use Rattle.record.specs.Refusal.{◌or_else◌, first}
 use Rattle.tree.specs.Nodes.{nodes_refusal}
 use Rattle.tree.specs.Code.{list_largest}
 use Rattle.constraint.specs.Records.{records_refusal}

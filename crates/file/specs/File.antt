@@ -3,7 +3,7 @@ use Rattle.std.specs.Prelude.{ℕ, zero, suc, ◌+◌, ◌*◌, ◌-◌, ◌/◌
 use Rattle.std.specs.Float.{binary64}
 use Rattle.number.specs.Sound.{sound}
 use Rattle.record.specs.Bytes.{u32_at, f64_at}
-use Rattle.record.specs.Refusal.{◌or-else◌, ◌unless◌, refused_or, first}
+use Rattle.record.specs.Refusal.{◌or_else◌, ◌unless◌, refused_or, first}
 use Rattle.tree.specs.Nodes.{nodes_refusal}
 use Rattle.constraint.specs.Constraint.{Constraint}
 use Rattle.constraint.specs.Records.{constraint_at, records_refusal}

@@ -12,7 +12,7 @@ use interval::{Boxes, Interval};
 use tree::Tested;
 
 fn is_headed(file: &[u8]) -> bool
-    ensures { result ≡ is_headed (old file) }
+    ensures { result ≡ is_headed file.now }
 {
     if file.len() < 32 {
         return false;
@@ -24,7 +24,7 @@ fn is_headed(file: &[u8]) -> bool
 
 fn is_laid_out(file: &[u8]) -> bool
     requires { 32 ≤ length file.now }
-    ensures { result ≡ is_laid_out (old file) }
+    ensures { result ≡ is_laid_out file.now }
 {
     let nodes = record::read_u32(file, 12) as usize;
     let constraints = record::read_u32(file, 20) as usize;
@@ -49,28 +49,28 @@ fn is_laid_out(file: &[u8]) -> bool
 
 pub fn node_count(file: &[u8]) -> usize
     requires { 32 ≤ length file.now }
-    ensures { result ≡ node_count (old file) }
+    ensures { result ≡ node_count file.now }
 {
     record::read_u32(file, 12) as usize
 }
 
 pub fn constraint_count(file: &[u8]) -> usize
     requires { 32 ≤ length file.now }
-    ensures { result ≡ constraint_count (old file) }
+    ensures { result ≡ constraint_count file.now }
 {
     record::read_u32(file, 20) as usize
 }
 
 pub fn bound_count(file: &[u8]) -> usize
     requires { 32 ≤ length file.now }
-    ensures { result ≡ bound_count (old file) }
+    ensures { result ≡ bound_count file.now }
 {
     record::read_u32(file, 28) as usize
 }
 
 pub fn nodes_of(file: &[u8]) -> &[u8]
     requires { Laid file.now }
-    ensures { result.now ≡ nodes_of (old file) }
+    ensures { result.now ≡ nodes_of file.now }
 {
     let to = 32 + 16 * node_count(file);
     &file[32..to]
@@ -78,7 +78,7 @@ pub fn nodes_of(file: &[u8]) -> &[u8]
 
 pub fn constraints_of(file: &[u8]) -> &[u8]
     requires { Laid file.now }
-    ensures { result.now ≡ constraints_of (old file) }
+    ensures { result.now ≡ constraints_of file.now }
 {
     let from = 32 + 16 * node_count(file);
     let to = from + 24 * constraint_count(file);
@@ -87,7 +87,7 @@ pub fn constraints_of(file: &[u8]) -> &[u8]
 
 pub fn bounds_of(file: &[u8]) -> &[u8]
     requires { Laid file.now }
-    ensures { result.now ≡ bounds_of (old file) }
+    ensures { result.now ≡ bounds_of file.now }
 {
     let from = 32 + 16 * node_count(file) + 24 * constraint_count(file);
     &file[from..]
@@ -96,7 +96,7 @@ pub fn bounds_of(file: &[u8]) -> &[u8]
 // Bound k, read with no test.
 pub fn bound_in(bounds: &[u8], k: usize) -> Interval
     requires { 16 * k + 16 ≤ length bounds.now }
-    ensures { result ≡ bound_at (old bounds) k }
+    ensures { result ≡ bound_at bounds.now k }
 {
     let at = 16 * k;
     Interval::new(
@@ -108,7 +108,7 @@ pub fn bound_in(bounds: &[u8], k: usize) -> Interval
 // The bounds of a file that is laid out, as boxes.
 pub fn file_bounds(file: &[u8]) -> Boxes
     requires { Laid file.now }
-    ensures { (result.count ≡ bound_count (old file)) × (boxes_of result ≡ bounds (bounds_of (old file)) (bound_count (old file))) }
+    ensures { (result.count ≡ bound_count file.now) × (boxes_of result ≡ bounds (bounds_of file.now) (bound_count file.now)) }
 {
     let n = bound_count(file);
     let bytes = bounds_of(file);
@@ -130,7 +130,7 @@ pub fn file_bounds(file: &[u8]) -> Boxes
 // Each of n bounds: 6.
 fn test_bounds(bounds: &[u8], n: usize) -> u8
     requires { 16 * n ≤ length bounds.now }
-    ensures { result ≡ first (bound_refusal (old bounds)) n }
+    ensures { result ≡ first (bound_refusal bounds.now) n }
 {
     let mut k: usize = 0;
     while k < n {
@@ -147,8 +147,8 @@ fn test_bounds(bounds: &[u8], n: usize) -> u8
 
 fn test_bodies(file: &[u8], starts: &mut [usize; 256]) -> u8
     requires { Laid file.now × (length starts.old ≡ 256) }
-    ensures value { result ≡ bodies_refusal (old file) }
-    ensures starts_value { final starts ≡ bodies_starts (old file) (old starts) }
+    ensures value { result ≡ bodies_refusal file.now }
+    ensures starts_value { final starts ≡ bodies_starts file.now (old starts) }
 {
     let count = node_count(file);
     let first = tree::test_list(nodes_of(file), count);
@@ -166,8 +166,8 @@ fn test_bodies(file: &[u8], starts: &mut [usize; 256]) -> u8
 // The refusal of a file, or 0. `starts` gets the first record of each constraint that passes.
 pub fn test_file(file: &[u8], starts: &mut [usize; 256]) -> u8
     requires { length starts.old ≡ 256 }
-    ensures value { result ≡ refusal (old file) }
-    ensures starts_value { final starts ≡ file_starts (old file) (old starts) }
+    ensures value { result ≡ refusal file.now }
+    ensures starts_value { final starts ≡ file_starts file.now (old starts) }
 {
     if !is_headed(file) {
         return 1;
@@ -181,9 +181,9 @@ pub fn test_file(file: &[u8], starts: &mut [usize; 256]) -> u8
 // The same of node records and constraint records given without a file, and the largest size of a node's tree.
 pub fn test_sized(nodes: &[u8], constraints: &[u8], starts: &mut [usize; 256]) -> Tested
     requires { length starts.old ≡ 256 }
-    ensures refusal_value { result.refusal ≡ given_refusal (old nodes) (old constraints) }
-    ensures starts_value { final starts ≡ given_starts (old nodes) (old constraints) (old starts) }
-    ensures largest_value { result.largest ≡ given_largest (old nodes) (old constraints) }
+    ensures refusal_value { result.refusal ≡ given_refusal nodes.now constraints.now }
+    ensures starts_value { final starts ≡ given_starts nodes.now constraints.now (old starts) }
+    ensures largest_value { result.largest ≡ given_largest nodes.now constraints.now }
 {
     let x = nodes.len();
     let y = constraints.len();
@@ -207,8 +207,8 @@ pub fn test_sized(nodes: &[u8], constraints: &[u8], starts: &mut [usize; 256]) -
 // Its refusal only.
 pub fn test_given(nodes: &[u8], constraints: &[u8], starts: &mut [usize; 256]) -> u8
     requires { length starts.old ≡ 256 }
-    ensures value { result ≡ given_refusal (old nodes) (old constraints) }
-    ensures starts_value { final starts ≡ given_starts (old nodes) (old constraints) (old starts) }
+    ensures value { result ≡ given_refusal nodes.now constraints.now }
+    ensures starts_value { final starts ≡ given_starts nodes.now constraints.now (old starts) }
 {
     let t = test_sized(nodes, constraints, starts);
     t.refusal
@@ -218,7 +218,7 @@ pub fn test_given(nodes: &[u8], constraints: &[u8], starts: &mut [usize; 256]) -
 
 // The refusal of a file, or 0.
 pub fn read(file: &[u8]) -> u8
-    ensures { result ≡ refusal (old file) }
+    ensures { result ≡ refusal file.now }
 {
     let mut starts = [0usize; 256];
     test_file(file, &mut starts)
@@ -226,14 +226,14 @@ pub fn read(file: &[u8]) -> u8
 
 // The refusal of records, or 0.
 pub fn read_given(nodes: &[u8], constraints: &[u8]) -> u8
-    ensures { result ≡ given_refusal (old nodes) (old constraints) }
+    ensures { result ≡ given_refusal nodes.now constraints.now }
 {
     let mut starts = [0usize; 256];
     test_given(nodes, constraints, &mut starts)
 }
 
 // A number of an accepted file, or of accepted records; or their refusal.
-#[derive(Drop)]
+#[derive(Clone, Copy)]
 pub enum Answer {
     Refused(u8),
     Value(u64),
@@ -241,7 +241,7 @@ pub enum Answer {
 
 // The number of variables of a file's constraint.
 pub fn num_vars(file: &[u8]) -> Answer
-    ensures { result ≡ answered num_vars (read_file (old file)) }
+    ensures { result ≡ answered num_vars (read_file file.now) }
 {
     let mut starts = [0usize; 256];
     let r = test_file(file, &mut starts);
@@ -255,7 +255,7 @@ pub fn num_vars(file: &[u8]) -> Answer
 
 // The same of records.
 pub fn num_vars_given(nodes: &[u8], constraints: &[u8]) -> Answer
-    ensures { result ≡ answered num_vars (read_given (old nodes) (old constraints)) }
+    ensures { result ≡ answered num_vars (read_given nodes.now constraints.now) }
 {
     let mut starts = [0usize; 256];
     let r = test_given(nodes, constraints, &mut starts);

@@ -2,7 +2,7 @@
 use Rattle.std.specs.Prelude.{ℕ, Bool, ◌&&◌, List, leb, length, Float}
 use Rattle.std.proofs.Math.Seq.{paste}
 use Rattle.record.specs.Leaving.{Leaving, ◌leaving◌}
-use Rattle.record.specs.Refusal.{◌or-else◌, ◌unless◌, refused_or}
+use Rattle.record.specs.Refusal.{◌or_else◌, ◌unless◌, refused_or}
 use Rattle.interval.specs.Boxes.{starting, any_empty, intervals, lows, highs, are_paired, are_boxes}
 
 -- 9: what is no list of boxes, or over 16 variables; 10: fewer places for an end than variables

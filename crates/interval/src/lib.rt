@@ -2,7 +2,7 @@
 ghost use Rattle.std.specs.Prelude.{◌≡◌, ◌<◌, ◌≤◌, ◌&&◌, leb, length, get_or};
 ghost use Rattle.std.specs.Float.Ieee.Scale.{finite};
 ghost use Rattle.interval.specs.Interval.{◌‥◌, is_empty, width, midpoint, contains, split, intersect, hull, exp, has_ln, ln, plus, minus, moves};
-ghost use Rattle.interval.specs.Boxes.{boxes_of, lows, highs, missing, starting, midpoints, all_below, widest, padded, any_empty, all_sound, are_paired, are_boxes};
+ghost use Rattle.interval.specs.Boxes.{intervals, boxes_of, lows, highs, missing, starting, midpoints, all_below, widest, padded, any_empty, all_sound, are_paired, are_boxes};
 ghost use Rattle.interval.specs.Domain.{domain_refusal, domain_new, domain_is_empty};
 ghost use Rattle.interval.specs.Views.{before};
 ghost use Rattle.record.specs.Leaving.{◌leaving◌};
@@ -10,14 +10,14 @@ ghost use Rattle.record.specs.Views.{old, final};
 ghost use Rattle.std.proofs.Math.Seq.{paste};
 
 #[repr(C)]
-#[derive(Drop)]
+#[derive(Clone, Copy)]
 pub struct Interval {
     pub lo: f64,
     pub hi: f64,
 }
 
 // The two halves of an interval.
-#[derive(Drop)]
+#[derive(Clone, Copy)]
 pub struct Halves {
     pub lower: Interval,
     pub upper: Interval,
@@ -162,7 +162,7 @@ impl Interval {
 // The box of variable i; one beyond the list is [-10, 10].
 pub fn box_at(lo: &[f64], hi: &[f64], i: usize) -> Interval
     requires { length hi.now ≡ length lo.now }
-    ensures { result ≡ get_or (before lo hi) i missing }
+    ensures { result ≡ get_or (intervals lo.now hi.now) i missing }
 {
     if i < lo.len() {
         return Interval::new(lo[i], hi[i]);
@@ -172,7 +172,7 @@ pub fn box_at(lo: &[f64], hi: &[f64], i: usize) -> Interval
 
 fn all_sound(lo: &[f64], hi: &[f64]) -> bool
     requires { length hi.now ≡ length lo.now }
-    ensures { result ≡ all_sound (before lo hi) }
+    ensures { result ≡ all_sound (intervals lo.now hi.now) }
 {
     let mut i: usize = 0;
     while i < lo.len() {
@@ -188,14 +188,14 @@ fn all_sound(lo: &[f64], hi: &[f64]) -> bool
 
 // Whether two lists have as many ends of each kind, at most 16.
 fn are_paired(lo: &[f64], hi: &[f64]) -> bool
-    ensures { result ≡ are_paired (old lo) (old hi) }
+    ensures { result ≡ are_paired lo.now hi.now }
 {
     (lo.len() == hi.len()) & (lo.len() <= 16)
 }
 
 // Whether a caller's two lists are boxes: paired, and each box sound.
 pub fn are_boxes(lo: &[f64], hi: &[f64]) -> bool
-    ensures { result ≡ are_boxes (old lo) (old hi) }
+    ensures { result ≡ are_boxes lo.now hi.now }
 {
     if are_paired(lo, hi) {
         return all_sound(lo, hi);
@@ -206,8 +206,8 @@ pub fn are_boxes(lo: &[f64], hi: &[f64]) -> bool
 // Writes the first n of the bounds, a missing one being [-10, 10], to the first places of two lists.
 fn write_starting(lo: &[f64], hi: &[f64], n: usize, out_lo: &mut [f64], out_hi: &mut [f64])
     requires { (length hi.now ≡ length lo.now) × (n ≤ length out_lo.old) × (n ≤ length out_hi.old) }
-    ensures out_lo_value { final out_lo ≡ paste (old out_lo) 0 (lows (starting n (before lo hi))) n }
-    ensures out_hi_value { final out_hi ≡ paste (old out_hi) 0 (highs (starting n (before lo hi))) n }
+    ensures out_lo_value { final out_lo ≡ paste (old out_lo) 0 (lows (starting n (intervals lo.now hi.now))) n }
+    ensures out_hi_value { final out_hi ≡ paste (old out_hi) 0 (highs (starting n (intervals lo.now hi.now))) n }
 {
     let mut i: usize = 0;
     while i < n {
@@ -230,7 +230,7 @@ impl Boxes {
     // The first n of the bounds, a missing one being [-10, 10].
     pub fn new(lo: &[f64], hi: &[f64], n: usize) -> Boxes
         requires { (length hi.now ≡ length lo.now) × (n ≤ 16) }
-        ensures { (result.count ≡ n) × (boxes_of result ≡ starting n (before lo hi)) }
+        ensures { (result.count ≡ n) × (boxes_of result ≡ starting n (intervals lo.now hi.now)) }
     {
         let mut low = [0.0; 16];
         let mut high = [0.0; 16];
@@ -340,7 +340,7 @@ impl Boxes {
 // ---- what the exported calls call
 
 fn domain_refusal(lo: &[f64], hi: &[f64], n: usize, room: usize, other: usize) -> u8
-    ensures { result ≡ domain_refusal (old lo) (old hi) n room other }
+    ensures { result ≡ domain_refusal lo.now hi.now n room other }
 {
     let are = are_boxes(lo, hi);
     if are & (n <= 16) {
@@ -354,7 +354,7 @@ fn domain_refusal(lo: &[f64], hi: &[f64], n: usize, room: usize, other: usize) -
 
 // IntervalDomain::new. A refusal writes nothing.
 pub fn domain_new(lo: &[f64], hi: &[f64], n: usize, out_lo: &mut [f64], out_hi: &mut [f64]) -> u8
-    ensures { (result leaving (final out_lo, final out_hi)) ≡ domain_new (old lo) (old hi) n (old out_lo) (old out_hi) }
+    ensures { (result leaving (final out_lo, final out_hi)) ≡ domain_new lo.now hi.now n (old out_lo) (old out_hi) }
 {
     let r = domain_refusal(lo, hi, n, out_lo.len(), out_hi.len());
     if r != 0 {
@@ -366,7 +366,7 @@ pub fn domain_new(lo: &[f64], hi: &[f64], n: usize, out_lo: &mut [f64], out_hi: 
 
 // IntervalDomain::is_empty.
 pub fn domain_is_empty(lo: &[f64], hi: &[f64], out: &mut bool) -> u8
-    ensures { (result leaving final out) ≡ domain_is_empty (old lo) (old hi) (old out) }
+    ensures { (result leaving final out) ≡ domain_is_empty lo.now hi.now (old out) }
 {
     if are_paired(lo, hi) {
         let boxes = Boxes::new(lo, hi, lo.len());

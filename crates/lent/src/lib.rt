@@ -46,7 +46,7 @@ fn get(boxes: Boxes, i: usize, old: Interval) -> Interval
 
 // The first 16 intervals, and how many there are in all.
 fn load(list: &[Interval]) -> Boxes
-    ensures { result ≡ load_of (old list) }
+    ensures { result ≡ load_of list.now }
 {
     let mut out = blank(list.len());
     let mut i = 0;
@@ -77,7 +77,7 @@ pub struct Narrowed {
 
 // The tests in document 01's order, then `propagate` by the one constraint that the records leave. A refusal alters nothing.
 fn narrow_boxes(nodes: &[u8], constraints: &[u8], boxes: Boxes) -> Narrowed
-    ensures { Narrows usual (old nodes) (old constraints) boxes result }
+    ensures { Narrows usual nodes.now constraints.now boxes result }
 {
     let mut starts = [0usize; 256];
     let r = file::test_given(nodes, constraints, &mut starts);
@@ -116,7 +116,7 @@ fn is_refusal(answer: Propagated) -> bool
 
 // Narrows the list itself. A refusal alters nothing in it.
 pub fn propagate(nodes: &[u8], constraints: &[u8], boxes: &mut [Interval]) -> Propagated
-    ensures { (result leaving final boxes) ≡ propagate_lent usual (old nodes) (old constraints) (old boxes) }
+    ensures { (result leaving final boxes) ≡ propagate_lent usual nodes.now constraints.now (old boxes) }
 {
     let out = narrow_boxes(nodes, constraints, load(boxes));
     let answer = out.answer;

@@ -69,7 +69,7 @@ pub fn exp(x: f64) -> f64
 }
 
 // x = m×2^e, 1 <= m < 2
-#[derive(Drop)]
+#[derive(Clone, Copy)]
 struct Parts {
     m: f64,
     e: i64,
@@ -238,7 +238,7 @@ fn quarter_of(n: i64) -> u64
 }
 
 // What sin and cos need of an angle: its quarter turn and the rest, unless it is too far.
-#[derive(Drop)]
+#[derive(Clone, Copy)]
 pub enum Turn {
     Far,
     By(u64, f64),
@@ -319,7 +319,7 @@ pub fn atan(t: f64) -> f64
     }
 }
 
-#[derive(Drop)]
+#[derive(Clone, Copy)]
 pub struct Complex {
     pub re: f64,
     pub im: f64,

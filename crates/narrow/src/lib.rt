@@ -24,7 +24,7 @@ use settings::Settings;
 use tree::Node;
 
 // What a step of narrowing did.
-#[derive(Drop)]
+#[derive(Clone, Copy)]
 pub enum PropResult {
     Changed,
     Stable,
@@ -69,7 +69,7 @@ fn worse(first: PropResult, second: PropResult) -> PropResult
 // ---- forward
 
 // The interval of a tree's values, where real arithmetic can tell.
-#[derive(Drop)]
+#[derive(Clone, Copy)]
 pub enum Values {
     Within(Interval),
     Unknown,
@@ -92,7 +92,7 @@ fn eml_interval(l: Interval, r: Interval) -> Values
 #[cycle(eval_eml_eval_interval)]
 pub fn eval_interval(nodes: &[u8], k: usize, lo: &[f64], hi: &[f64]) -> Values
     requires { Valid nodes.now (k + 1) × (length hi.now ≡ length lo.now) }
-    ensures { result ≡ eval_interval (before lo hi) (the_tree nodes k) }
+    ensures { result ≡ eval_interval (intervals lo.now hi.now) (the_tree nodes k) }
 {
     match tree::node_in(nodes, k) {
         Node::One => Values::Within(Interval::new(1.0, 1.0)),
@@ -106,7 +106,7 @@ pub fn eval_interval(nodes: &[u8], k: usize, lo: &[f64], hi: &[f64]) -> Values
 #[cycle(eval_eml_eval_interval)]
 fn eval_eml(nodes: &[u8], a: usize, b: usize, lo: &[f64], hi: &[f64]) -> Values
     requires { Valid nodes.now (a + 1) × Valid nodes.now (b + 1) × (length hi.now ≡ length lo.now) }
-    ensures { result ≡ forward (eval_interval (before lo hi) (the_tree nodes a)) (eval_interval (before lo hi) (the_tree nodes b)) }
+    ensures { result ≡ forward (eval_interval (intervals lo.now hi.now) (the_tree nodes a)) (eval_interval (intervals lo.now hi.now) (the_tree nodes b)) }
 {
     let Values::Within(l) = eval_interval(nodes, a, lo, hi) else {
         return Values::Unknown;
@@ -120,7 +120,7 @@ fn eval_eml(nodes: &[u8], a: usize, b: usize, lo: &[f64], hi: &[f64]) -> Values
 // ---- backward
 
 // What an Eml node asks of its children, or answers at once.
-#[derive(Drop)]
+#[derive(Clone, Copy)]
 pub enum Demand {
     Answer(PropResult),
     Ask(Interval, Interval),
@@ -209,7 +209,7 @@ fn narrow_var(
 // What an Eml of nodes a and b, which is to lie in out, asks of them.
 fn demand_of(nodes: &[u8], a: usize, b: usize, out: Interval, lo: &[f64], hi: &[f64]) -> Demand
     requires { Valid nodes.now (a + 1) × Valid nodes.now (b + 1) × (length hi.now ≡ length lo.now) }
-    ensures { result ≡ demandOf (eval_interval (before lo hi) (the_tree nodes a)) (eval_interval (before lo hi) (the_tree nodes b)) out }
+    ensures { result ≡ demandOf (eval_interval (intervals lo.now hi.now) (the_tree nodes a)) (eval_interval (intervals lo.now hi.now) (the_tree nodes b)) out }
 {
     let Values::Within(l) = eval_interval(nodes, a, lo, hi) else {
         return Demand::Answer(PropResult::Stable);
@@ -289,7 +289,7 @@ fn backward_both(
 // ---- one atom
 
 // What an atom asks of its tree's interval, or answers at once. Nudge: an end of a bare variable is to move off zero.
-#[derive(Drop)]
+#[derive(Clone, Copy)]
 pub enum Target {
     Stop(PropResult),
     Out(Interval),
@@ -413,7 +413,7 @@ fn aim_at(
     hi: &[f64],
 ) -> Demand
     requires { Valid nodes.now (a + 1) × Valid nodes.now (b + 1) × (length hi.now ≡ length lo.now) }
-    ensures { result ≡ aim_at settings relation (eval_interval (before lo hi) (the_tree nodes a)) (eval_interval (before lo hi) (the_tree nodes b)) }
+    ensures { result ≡ aim_at settings relation (eval_interval (intervals lo.now hi.now) (the_tree nodes a)) (eval_interval (intervals lo.now hi.now) (the_tree nodes b)) }
 {
     let Values::Within(l) = eval_interval(nodes, a, lo, hi) else {
         return Demand::Answer(PropResult::Stable);
@@ -572,7 +572,7 @@ fn adopt_survivors(settings: Settings, s: Survivors, lo: &mut [f64], hi: &mut [f
 }
 
 // How a constraint is taken: as it is written, its normal form, its negation.
-#[derive(Drop)]
+#[derive(Clone, Copy)]
 pub enum Mode {
     Written,
     Normal,
@@ -610,7 +610,7 @@ fn is_negated(mode: Mode) -> bool
 }
 
 // What a round does with a record: narrow by an atom, by the constraint inside in another mode, by all or one of the last m, or nothing.
-#[derive(Drop)]
+#[derive(Clone, Copy)]
 pub enum Step {
     Atom(Relation, usize),
     Inside(Mode),
@@ -882,7 +882,7 @@ pub fn narrow_boxes(
 
 // ---- the call on records and boxes that are given
 
-#[derive(Drop)]
+#[derive(Clone, Copy)]
 pub enum Propagated {
     Refused(u8),
     Answered(PropResult),
@@ -895,7 +895,7 @@ pub fn propagate_given(
     lo: &mut [f64],
     hi: &mut [f64],
 ) -> Propagated
-    ensures { (result leaving (final lo, final hi)) ≡ propagate_given usual (old nodes) (old constraints) (old lo) (old hi) }
+    ensures { (result leaving (final lo, final hi)) ≡ propagate_given usual nodes.now constraints.now (old lo) (old hi) }
 {
     let mut starts = [0usize; 256];
     let r = file::test_given(nodes, constraints, &mut starts);

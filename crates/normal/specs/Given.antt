@@ -2,7 +2,7 @@
 use Rattle.std.specs.Prelude.{ℕ, zero, suc, ◌+◌, ◌*◌, ◌-◌, ◌/◌, List, leb, length}
 use Rattle.std.proofs.lemmas.List.Edits.{sets}
 use Rattle.record.specs.Leaving.{Leaving, ◌leaving◌}
-use Rattle.record.specs.Refusal.{◌or-else◌, ◌unless◌, refused_or}
+use Rattle.record.specs.Refusal.{◌or_else◌, ◌unless◌, refused_or}
 use Rattle.constraint.specs.declared.Record.{Record}
 use Rattle.constraint.specs.Records.{record_at, formula_at}
 use Rattle.constraint.specs.Encoding.{records_bytes, records_of}

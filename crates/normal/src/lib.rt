@@ -57,7 +57,7 @@ fn dual(r: Record) -> Record
 #[cycle(negate_negate_all_to_nnf_to_nnf_all)]
 fn to_nnf(constraints: &[u8], starts: &[usize; 256], k: usize, out: &mut [u8], at: usize) -> usize
     requires { Passed constraints.now (k + 1) starts.now × (24 * (at + length (nnf_at constraints.now k)) ≤ length out.old) }
-    ensures { Puts (old out) (final out) at result (nnf_at (old constraints) k) }
+    ensures { Puts (old out) (final out) at result (nnf_at constraints.now k) }
 {
     let r = constraint::record_in(constraints, k);
     if kept_of(r) == 0 {
@@ -71,7 +71,7 @@ fn to_nnf(constraints: &[u8], starts: &[usize; 256], k: usize, out: &mut [u8], a
 #[cycle(negate_negate_all_to_nnf_to_nnf_all)]
 fn negate(constraints: &[u8], starts: &[usize; 256], k: usize, out: &mut [u8], at: usize) -> usize
     requires { Passed constraints.now (k + 1) starts.now × (24 * (at + length (negation_at constraints.now k)) ≤ length out.old) }
-    ensures { Puts (old out) (final out) at result (negation_at (old constraints) k) }
+    ensures { Puts (old out) (final out) at result (negation_at constraints.now k) }
 {
     let r = constraint::record_in(constraints, k);
     if kept_of(r) == 0 {
@@ -93,7 +93,7 @@ fn to_nnf_all(
     at: usize,
 ) -> usize
     requires { PassedAll constraints.now m n starts.now × (24 * (at + length (nnf_all constraints.now m n)) ≤ length out.old) }
-    ensures { Puts (old out) (final out) at result (nnf_all (old constraints) m n) }
+    ensures { Puts (old out) (final out) at result (nnf_all constraints.now m n) }
 {
     if m == 0 {
         return at;
@@ -114,7 +114,7 @@ fn negate_all(
     at: usize,
 ) -> usize
     requires { PassedAll constraints.now m n starts.now × (24 * (at + length (negation_all constraints.now m n)) ≤ length out.old) }
-    ensures { Puts (old out) (final out) at result (negation_all (old constraints) m n) }
+    ensures { Puts (old out) (final out) at result (negation_all constraints.now m n) }
 {
     if m == 0 {
         return at;
@@ -130,7 +130,7 @@ fn negate_all(
 // How many of n records are no Not: so many the normal form has.
 fn count_kept(constraints: &[u8], n: usize) -> usize
     requires { (n ≤ 256) × (24 * n ≤ length constraints.now) }
-    ensures { result ≡ count_kept (old constraints) n }
+    ensures { result ≡ count_kept constraints.now n }
 {
     let mut count: usize = 0;
     let mut k: usize = 0;
@@ -141,7 +141,7 @@ fn count_kept(constraints: &[u8], n: usize) -> usize
     count
 }
 
-#[derive(Drop)]
+#[derive(Clone, Copy)]
 pub enum Nnf {
     Refused(u8),
     Records(usize),
@@ -149,7 +149,7 @@ pub enum Nnf {
 
 // The tests in document 01's order, then the records of the normal form of the one constraint that is left. A refusal alters nothing.
 pub fn to_nnf_given(nodes: &[u8], constraints: &[u8], out: &mut [u8]) -> Nnf
-    ensures { (result leaving final out) ≡ to_nnf_given (old nodes) (old constraints) (old out) }
+    ensures { (result leaving final out) ≡ to_nnf_given nodes.now constraints.now (old out) }
 {
     let mut starts = [0usize; 256];
     let r = file::test_given(nodes, constraints, &mut starts);

@@ -6,7 +6,7 @@ use mathlib.Core.List.{List}
 use borrow.Author.Tests.{not-true, not-false}
 use lib.Ieee.{Float}
 use lib.ListN.{length}
-use Rattle.record.specs.Refusal.{◌or-else◌, refused_or}
+use Rattle.record.specs.Refusal.{◌or_else◌, refused_or}
 use Rattle.settings.specs.declared.Settings.{Settings}
 use Rattle.interval.specs.declared.Interval.{Interval}
 use Rattle.interval.specs.Boxes.{intervals, are_boxes}

@@ -2,7 +2,7 @@
 -- σ are the settings, document 01's calls having `usual`; `room` is how many places there are for a point.
 use Rattle.std.specs.Prelude.{ℕ, not, ◌&&◌, List, leb, Float}
 use Rattle.std.specs.Float.Ieee.{is_nan}
-use Rattle.record.specs.Refusal.{◌or-else◌, ◌unless◌, refused_or}
+use Rattle.record.specs.Refusal.{◌or_else◌, ◌unless◌, refused_or}
 use Rattle.settings.specs.declared.Settings.{Settings}
 use Rattle.interval.specs.declared.Interval.{Interval}
 use Rattle.interval.specs.Boxes.{intervals, are_boxes}

@@ -11,7 +11,7 @@ use super::run::{Run, Step};
 use interval::Boxes;
 
 // Document 01's stop words.
-#[derive(Drop)]
+#[derive(Clone, Copy)]
 pub enum Stop {
     Assignment,
     Conflict,

@@ -15,7 +15,7 @@ use point::helpers::{check_constraint, evaluate_constraint_residual};
 use settings::Settings;
 
 // What stays the same in a run: the number of the constraint's record, the settings, the tolerance.
-#[derive(Drop)]
+#[derive(Clone, Copy)]
 pub struct Task {
     pub root: usize,
     pub settings: Settings,
@@ -33,7 +33,7 @@ pub fn passes(
 ) -> bool
     requires ready { Ready nodes.now constraints.now (task.root + 1) starts.now }
     requires room { Room nodes.now point.now order.old }
-    ensures { result ≡ check task.settings (old point) (the nodes constraints task.root) }
+    ensures { result ≡ check task.settings point.now (the nodes constraints task.root) }
 {
     let settings = task.settings;
     check_constraint(
@@ -58,7 +58,7 @@ pub fn distance(
 ) -> f64
     requires ready { Ready nodes.now constraints.now (task.root + 1) starts.now }
     requires room { Room nodes.now point.now order.old }
-    ensures { result ≡ Solver.distance_at task.settings (the nodes constraints task.root) (old point) }
+    ensures { result ≡ Solver.distance_at task.settings (the nodes constraints task.root) point.now }
 {
     let settings = task.settings;
     number::abs(evaluate_constraint_residual(

@@ -109,7 +109,7 @@ fn limit_refusal(limit: usize, tolerance: f64) -> u8
 
 // Solves a house file. `room` is how many places the caller has for the point.
 pub fn solve_file(file: &[u8], limit: usize, tolerance: f64, room: usize) -> Solved
-    ensures value { result ≡ solve_file usual (old file) limit tolerance room }
+    ensures value { result ≡ solve_file usual file.now limit tolerance room }
     ensures count_le_room { result.count ≤ room }
 {
     let mut starts = [0usize; 256];
@@ -150,7 +150,7 @@ pub fn solve(
     tolerance: f64,
     room: usize,
 ) -> Solved
-    ensures value { result ≡ solve_given usual (old nodes) (old constraints) (old lo) (old hi) limit tolerance room }
+    ensures value { result ≡ solve_given usual nodes.now constraints.now lo.now hi.now limit tolerance room }
     ensures count_le_room { result.count ≤ room }
 {
     let mut starts = [0usize; 256];

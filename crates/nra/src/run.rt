@@ -11,7 +11,7 @@ use narrow::Mode;
 
 // Where a run stands: it goes on; its point passed, exactly or not; narrowing met a conflict; the boxes are narrower than the tolerance, at
 // that distance.
-#[derive(Drop)]
+#[derive(Clone, Copy)]
 pub enum Step {
     Going,
     Passed(bool),

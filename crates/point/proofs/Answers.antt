@@ -8,7 +8,7 @@ use lib.Dec.{leb, eqb, ltb}
 use lib.Ieee.{Float}
 use lib.ListN.{length}
 use Rattle.settings.specs.declared.Settings.{Settings}
-use Rattle.record.specs.Refusal.{◌or-else◌, ◌unless◌}
+use Rattle.record.specs.Refusal.{◌or_else◌, ◌unless◌}
 use Rattle.record.specs.RefusalLaws.{none_both, none_unless, or_else_refused, is_answered}
 use Rattle.tree.specs.Nodes.{list_refusal, tree_at, Valid}
 use Rattle.tree.specs.NodeLaws.{list_valid, prefix}

@@ -2,7 +2,7 @@
 -- tested in the reader's order, then 9 for a point of over 16 values. Document 01's own calls are these with its own settings.
 use Rattle.std.specs.Prelude.{ℕ, ◌/◌, ◌%◌, List, leb, ltb, eqb, Float, length}
 use Rattle.settings.specs.declared.Settings.{Settings}
-use Rattle.record.specs.Refusal.{◌or-else◌, ◌unless◌, refused_or}
+use Rattle.record.specs.Refusal.{◌or_else◌, ◌unless◌, refused_or}
 use Rattle.tree.specs.Nodes.{tree_at, list_refusal}
 use Rattle.file.specs.File.{left, given_refusal}
 use Rattle.point.specs.declared.EvalAnswer.{EvalAnswer}

@@ -4,7 +4,7 @@ ghost use Rattle.std.specs.Float.Ieee.{is_nan};
 ghost use Rattle.tree.specs.Tree.{size};
 ghost use Rattle.tree.specs.Nodes.{Valid, tree_at};
 ghost use Rattle.point.specs.Eval.{real as realOf, clamped, beyond, eml_complex, variable as variableOf, eval_complex, real_part, eval_real};
-ghost use Rattle.point.specs.Machine.{instruction_of, instructions, value_at, Flattened, Runs, run as running, result};
+ghost use Rattle.point.specs.Machine.{instruction_of, instructions, value_at, Flattened, Runs, run as running, result as outcome};
 ghost use Rattle.tree.specs.Views.{the_tree};
 ghost use Rattle.record.specs.Views.{old, final};
 
@@ -12,7 +12,7 @@ use maths::Complex;
 use settings::Settings;
 use tree::Node;
 
-#[derive(Drop)]
+#[derive(Clone, Copy)]
 pub enum Instruction {
     PushOne,
     PushConst(f64),
@@ -22,7 +22,7 @@ pub enum Instruction {
 
 // What stops an evaluation: a variable that the point lacks, and how many values the point has; a NaN; the magnitude of an
 // imaginary part that is not negligible; in strict mode, a real part beyond the clamp.
-#[derive(Drop)]
+#[derive(Clone, Copy)]
 pub enum EvalError {
     VarOutOfBounds(usize, usize),
     NanEncountered,
@@ -30,13 +30,13 @@ pub enum EvalError {
     ExpOverflow(f64),
 }
 
-#[derive(Drop)]
+#[derive(Clone, Copy)]
 pub enum EvaluatedComplex {
     Value(Complex),
     Failed(EvalError),
 }
 
-#[derive(Drop)]
+#[derive(Clone, Copy)]
 pub enum Evaluated {
     Value(f64),
     Failed(EvalError),
@@ -44,7 +44,7 @@ pub enum Evaluated {
 
 // What the machine does at a node, once the node's children are on the stack.
 fn instruction_of(node: Node) -> Instruction
-    ensures* { λ x. ⌜ x ≡ instruction_of node ⌝ }
+    ensures { result ≡ instruction_of node }
 {
     match node {
         Node::One => Instruction::PushOne,
@@ -58,7 +58,7 @@ fn instruction_of(node: Node) -> Instruction
 fn flatten_postorder(nodes: &[u8], k: usize, at: usize, order: &mut [u16]) -> usize
     requires valid { Valid nodes.now (k + 1) }
     requires k_in_bounds { at + size (tree_at nodes.now k) ≤ length order.old }
-    ensures* { λ r. ⌜ Flattened (old nodes) (old order) (final order) at r (the_tree nodes k) ⌝ }
+    ensures { Flattened nodes.now (old order) (final order) at result (the_tree nodes k) }
 {
     let Node::Eml(left, right) = tree::node_in(nodes, k) else {
         order[at] = k as u16;
@@ -71,13 +71,13 @@ fn flatten_postorder(nodes: &[u8], k: usize, at: usize, order: &mut [u16]) -> us
 }
 
 fn is_nan(x: f64) -> bool
-    ensures* { λ r. ⌜ r ≡ is_nan x ⌝ }
+    ensures { result ≡ is_nan x }
 {
     x != x
 }
 
 fn clamp(most: f64, x: f64) -> f64
-    ensures* { λ r. ⌜ r ≡ clamped most x ⌝ }
+    ensures { result ≡ clamped most x }
 {
     if x > most {
         return most;
@@ -89,14 +89,14 @@ fn clamp(most: f64, x: f64) -> f64
 }
 
 fn is_beyond(most: f64, x: f64) -> bool
-    ensures* { λ r. ⌜ r ≡ beyond most x ⌝ }
+    ensures { result ≡ beyond most x }
 {
     (x > most) | (x < -most)
 }
 
 // exp(left) - ln(right)
 fn eml_complex(settings: Settings, left: Complex, right: Complex) -> EvaluatedComplex
-    ensures* { λ x. ⌜ x ≡ eml_complex settings left right ⌝ }
+    ensures { result ≡ eml_complex settings left right }
 {
     if settings.strict & is_beyond(settings.clamp, left.re) {
         return EvaluatedComplex::Failed(EvalError::ExpOverflow(left.re));
@@ -119,13 +119,13 @@ fn eml_complex(settings: Settings, left: Complex, right: Complex) -> EvaluatedCo
 }
 
 fn real(x: f64) -> Complex
-    ensures* { λ z. ⌜ z ≡ realOf x ⌝ }
+    ensures { result ≡ realOf x }
 {
     Complex { re: x, im: 0.0 }
 }
 
 fn variable(i: usize, point: &[f64]) -> EvaluatedComplex
-    ensures* { λ x. ⌜ x ≡ variableOf (old point) i ⌝ }
+    ensures { result ≡ variableOf point.now i }
 {
     if point.len() <= i {
         return EvaluatedComplex::Failed(EvalError::VarOutOfBounds(i, point.len()));
@@ -136,7 +136,7 @@ fn variable(i: usize, point: &[f64]) -> EvaluatedComplex
 // The stack's value at place i.
 fn stacked(i: usize, re: &[f64], im: &[f64]) -> Complex
     requires { (i < length re.now) × (i < length im.now) }
-    ensures* { λ z. ⌜ z ≡ value_at (old re) (old im) i ⌝ }
+    ensures { result ≡ value_at re.now im.now i }
 {
     Complex {
         re: re[i],
@@ -147,7 +147,7 @@ fn stacked(i: usize, re: &[f64], im: &[f64]) -> Complex
 // Puts z at place i of the stack.
 fn put(i: usize, z: Complex, re: &mut [f64], im: &mut [f64])
     requires { (i < length re.old) × (i < length im.old) }
-    ensures* { λ _. ⌜ (final re ≡ set (old re) i z.re) × (final im ≡ set (old im) i z.im) ⌝ }
+    ensures { (final re ≡ set (old re) i z.re) × (final im ≡ set (old im) i z.im) }
 {
     re[i] = z.re;
     im[i] = z.im;
@@ -164,7 +164,7 @@ fn run(
     im: &mut [f64],
 ) -> EvaluatedComplex
     requires { Runs nodes.now order.now n re.old im.old }
-    ensures* { λ x. ⌜ x ≡ result (running settings (old point) (instructions (old nodes) (old order) n) []) ⌝ }
+    ensures { result ≡ outcome (running settings point.now (instructions nodes.now order.now n) []) }
 {
     let mut top = 0;
     let mut j = 0;
@@ -206,7 +206,7 @@ pub fn eval_complex(
 ) -> EvaluatedComplex
     requires valid { Valid nodes.now (k + 1) }
     requires k_in_bounds { size (tree_at nodes.now k) ≤ length order.old }
-    ensures* { λ x. ⌜ x ≡ eval_complex settings (old point) (the_tree nodes k) ⌝ }
+    ensures { result ≡ eval_complex settings point.now (the_tree nodes k) }
 {
     let n = flatten_postorder(nodes, k, 0, order);
     if n < 32 {
@@ -220,7 +220,7 @@ pub fn eval_complex(
 }
 
 fn real_part(z: Complex) -> Evaluated
-    ensures* { λ x. ⌜ x ≡ real_part z ⌝ }
+    ensures { result ≡ real_part z }
 {
     let im = number::abs(z.im);
     if im < 1e-12 {
@@ -241,7 +241,7 @@ pub fn eval_real(
 ) -> Evaluated
     requires valid { Valid nodes.now (k + 1) }
     requires k_in_bounds { size (tree_at nodes.now k) ≤ length order.old }
-    ensures* { λ x. ⌜ x ≡ eval_real settings (old point) (the_tree nodes k) ⌝ }
+    ensures { result ≡ eval_real settings point.now (the_tree nodes k) }
 {
     match eval_complex(nodes, k, settings, point, order) {
         EvaluatedComplex::Value(z) => real_part(z),

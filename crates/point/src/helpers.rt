@@ -22,7 +22,7 @@ use settings::Settings;
 // The point in the first places. It is copied once for all of a quantifier's samples.
 fn copied(point: &[f64]) -> [f64; 16]
     requires { length point.now ≤ 16 }
-    ensures { take (length (old point)) result ≡ old point }
+    ensures { take (length point.now) result ≡ point.now }
 {
     let mut copy = [0.0; 16];
     let mut i = 0;
@@ -53,7 +53,7 @@ fn samples(lo: f64, hi: f64) -> [f64; 3]
 }
 
 // A quantifier over variable v from lo to hi: any of its samples is to pass, or all.
-#[derive(Drop)]
+#[derive(Clone, Copy)]
 pub struct Quantifier {
     any: bool,
     v: usize,
@@ -63,7 +63,7 @@ pub struct Quantifier {
 
 // What a record asks of a point: an atom's relation of its node's value; that the constraint before fails; any or all of the last m; any or
 // all of a quantifier's samples.
-#[derive(Drop)]
+#[derive(Clone, Copy)]
 pub enum Shape {
     Atom(Relation, usize),
     Not,
@@ -73,7 +73,7 @@ pub enum Shape {
 
 fn shape_in(constraints: &[u8], k: usize) -> Shape
     requires { 24 * k + 24 ≤ length constraints.now }
-    ensures { result ≡ shape_of (record_at (old constraints) k) }
+    ensures { result ≡ shape_of (record_at constraints.now k) }
 {
     match constraint::record_in(constraints, k) {
         Record::Atom(relation, i) => Shape::Atom(relation, i),
@@ -120,7 +120,7 @@ fn check_atom(
 ) -> bool
     requires valid { Valid nodes.now (i + 1) }
     requires i_in_bounds { size (tree_at nodes.now i) ≤ length order.old }
-    ensures { result ≡ passes settings relation (eval_real settings (old point) (the_tree nodes i)) }
+    ensures { result ≡ passes settings relation (eval_real settings point.now (the_tree nodes i)) }
 {
     match super::eval::eval_real(nodes, i, settings, point, order) {
         Evaluated::Value(v) => holds(settings, relation, v),
@@ -140,7 +140,7 @@ pub fn check_constraint(
 ) -> bool
     requires ready { Ready nodes.now constraints.now (k + 1) starts.now }
     requires room { Room nodes.now point.now order.old }
-    ensures { result ≡ check settings (old point) (the nodes constraints k) }
+    ensures { result ≡ check settings point.now (the nodes constraints k) }
 {
     match shape_in(constraints, k) {
         Shape::Atom(relation, i) => check_atom(nodes, i, settings, relation, point, order),
@@ -178,7 +178,7 @@ fn check_each(
 ) -> bool
     requires taken { Taken nodes.now constraints.now m n starts.now }
     requires room { Room nodes.now point.now order.old }
-    ensures { result ≡ check settings (old point) (joined any (those nodes constraints m n)) }
+    ensures { result ≡ check settings point.now (joined any (those nodes constraints m n)) }
 {
     if m == 0 {
         return !any;
@@ -216,7 +216,7 @@ fn check_samples(
 ) -> bool
     requires ready { Ready nodes.now constraints.now (k + 1) starts.now }
     requires room { Room nodes.now point.now order.old }
-    ensures { result ≡ check settings (old point) (quantified q.any q.v q.lo q.hi (the nodes constraints k)) }
+    ensures { result ≡ check settings point.now (quantified q.any q.v q.lo q.hi (the nodes constraints k)) }
 {
     let samples = samples(q.lo, q.hi);
     let n = point.len();
@@ -271,7 +271,7 @@ fn residual_of_atom(
 ) -> f64
     requires valid { Valid nodes.now (i + 1) }
     requires i_in_bounds { size (tree_at nodes.now i) ≤ length order.old }
-    ensures { result ≡ shortfallOf relation (value_or (error_value relation) (eval_real settings (old point) (the_tree nodes i))) }
+    ensures { result ≡ shortfallOf relation (value_or (error_value relation) (eval_real settings point.now (the_tree nodes i))) }
 {
     match super::eval::eval_real(nodes, i, settings, point, order) {
         Evaluated::Value(v) => shortfall(relation, v),
@@ -333,7 +333,7 @@ pub fn evaluate_constraint_residual(
 ) -> f64
     requires ready { Ready nodes.now constraints.now (k + 1) starts.now }
     requires room { Room nodes.now point.now order.old }
-    ensures { result ≡ residual settings (old point) (the nodes constraints k) }
+    ensures { result ≡ residual settings point.now (the nodes constraints k) }
 {
     match shape_in(constraints, k) {
         Shape::Atom(relation, i) => residual_of_atom(nodes, i, settings, relation, point, order),
@@ -378,7 +378,7 @@ fn residual_each(
 ) -> f64
     requires taken { Taken nodes.now constraints.now m n starts.now }
     requires room { Room nodes.now point.now order.old }
-    ensures { result ≡ residual settings (old point) (joined any (those nodes constraints m n)) }
+    ensures { result ≡ residual settings point.now (joined any (those nodes constraints m n)) }
 {
     if m == 0 {
         return residual_of_none(any);
@@ -414,7 +414,7 @@ fn residual_samples(
 ) -> f64
     requires ready { Ready nodes.now constraints.now (k + 1) starts.now }
     requires room { Room nodes.now point.now order.old }
-    ensures { result ≡ residual settings (old point) (quantified q.any q.v q.lo q.hi (the nodes constraints k)) }
+    ensures { result ≡ residual settings point.now (quantified q.any q.v q.lo q.hi (the nodes constraints k)) }
 {
     let samples = samples(q.lo, q.hi);
     let n = point.len();

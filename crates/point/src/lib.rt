@@ -22,20 +22,20 @@ use settings::Settings;
 use tree::Tested;
 
 // A refusal is document 01's number.
-#[derive(Drop)]
+#[derive(Clone, Copy)]
 pub enum EvalAnswer {
     Refused(u8),
     Value(f64),
     Failed(EvalError),
 }
 
-#[derive(Drop)]
+#[derive(Clone, Copy)]
 pub enum CheckAnswer {
     Refused(u8),
     Checked(bool),
 }
 
-#[derive(Drop)]
+#[derive(Clone, Copy)]
 pub enum ResidualAnswer {
     Refused(u8),
     Residual(f64),
@@ -50,7 +50,7 @@ fn refused(refusal: u8) -> Tested
 
 // The tests of eval_real, and where they pass a size that the node's tree is not above.
 fn eval_tested(nodes: &[u8], k: usize, point: &[f64]) -> Tested
-    ensures refusal_value { result.refusal ≡ eval_refusal (old nodes) k (old point) }
+    ensures refusal_value { result.refusal ≡ eval_refusal nodes.now k point.now }
     ensures k_bound { result.refusal ≡ 0 → size (the_tree nodes k) ≤ result.largest }
 {
     let count = nodes.len() / 16;
@@ -80,7 +80,7 @@ fn eval_sized(
     point: &[f64],
 ) -> Evaluated
     requires { Valid nodes.now (k + 1) × (size (tree_at nodes.now k) ≤ largest) }
-    ensures { result ≡ eval_real settings (old point) (the_tree nodes k) }
+    ensures { result ≡ eval_real settings point.now (the_tree nodes k) }
 {
     if largest <= 64 {
         let mut order = [0u16; 64];
@@ -92,7 +92,7 @@ fn eval_sized(
 
 // The value of a node's tree at the point.
 pub fn eval_real(nodes: &[u8], node: usize, point: &[f64]) -> EvalAnswer
-    ensures { result ≡ eval_answer usual (old nodes) node (old point) }
+    ensures { result ≡ eval_answer usual nodes.now node point.now }
 {
     let t = eval_tested(nodes, node, point);
     if t.refusal != 0 {
@@ -112,9 +112,9 @@ fn given_tested(
     starts: &mut [usize; 256],
 ) -> Tested
     requires { length starts.old ≡ 256 }
-    ensures refusal_value { result.refusal ≡ point_refusal (old nodes) (old constraints) (old point) }
-    ensures starts_value { final starts ≡ given_starts (old nodes) (old constraints) (old starts) }
-    ensures within { result.refusal ≡ 0 → Within (old nodes) (length (old nodes) / 16) result.largest }
+    ensures refusal_value { result.refusal ≡ point_refusal nodes.now constraints.now point.now }
+    ensures starts_value { final starts ≡ given_starts nodes.now constraints.now (old starts) }
+    ensures within { result.refusal ≡ 0 → Within nodes.now (length nodes.now / 16) result.largest }
 {
     let t = file::test_sized(nodes, constraints, starts);
     if t.refusal != 0 {
@@ -138,7 +138,7 @@ fn check_sized(
 ) -> bool
     requires ready { Ready nodes.now constraints.now (k + 1) starts.now }
     requires within { Within nodes.now (length nodes.now / 16) largest × (length point.now ≤ 16) }
-    ensures { result ≡ check settings (old point) (the nodes constraints k) }
+    ensures { result ≡ check settings point.now (the nodes constraints k) }
 {
     if largest <= 64 {
         let mut order = [0u16; 64];
@@ -158,7 +158,7 @@ fn check_sized(
 
 // Whether the point passes the check of the constraint.
 pub fn check_constraint(nodes: &[u8], constraints: &[u8], point: &[f64]) -> CheckAnswer
-    ensures { result ≡ check_answer usual (old nodes) (old constraints) (old point) }
+    ensures { result ≡ check_answer usual nodes.now constraints.now point.now }
 {
     let mut starts = [0usize; 256];
     let t = given_tested(nodes, constraints, point, &mut starts);
@@ -189,7 +189,7 @@ fn residual_sized(
 ) -> f64
     requires ready { Ready nodes.now constraints.now (k + 1) starts.now }
     requires within { Within nodes.now (length nodes.now / 16) largest × (length point.now ≤ 16) }
-    ensures { result ≡ residualOf settings (old point) (the nodes constraints k) }
+    ensures { result ≡ residualOf settings point.now (the nodes constraints k) }
 {
     if largest <= 64 {
         let mut order = [0u16; 64];
@@ -217,7 +217,7 @@ fn residual_sized(
 
 // How far the point is from meeting the constraint.
 pub fn residual(nodes: &[u8], constraints: &[u8], point: &[f64]) -> ResidualAnswer
-    ensures { result ≡ residual_answer usual (old nodes) (old constraints) (old point) }
+    ensures { result ≡ residual_answer usual nodes.now constraints.now point.now }
 {
     let mut starts = [0usize; 256];
     let t = given_tested(nodes, constraints, point, &mut starts);

@@ -2,7 +2,7 @@
 use Rattle.std.specs.Prelude.{◌≡◌, refl, ℕ, zero, suc, ◌-◌, ◌/◌, ◌≤◌, true, List, [], ◌∷◌, ◌++◌, length, Float}
 use Rattle.std.proofs.Common.{arith}
 use Rattle.number.specs.Order.{passed}
-use Rattle.record.specs.Refusal.{◌or-else◌, refused_or}
+use Rattle.record.specs.Refusal.{◌or_else◌, refused_or}
 use Rattle.record.specs.RefusalLaws.{none_both, none_unless}
 use Rattle.settings.specs.declared.Settings.{Settings}
 use Rattle.interval.specs.declared.Interval.{Interval}

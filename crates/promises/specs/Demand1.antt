@@ -10,7 +10,7 @@ use Rattle.std.proofs.Common.{subst}
 use Rattle.std.proofs.Math.Bool.{true, false}
 use Rattle.settings.specs.declared.Settings.{Settings}
 use Rattle.record.specs.Leaving.{Leaving, ◌leaving◌, same_answer, same_places}
-use Rattle.record.specs.Refusal.{◌or-else◌, ◌unless◌, refused_or}
+use Rattle.record.specs.Refusal.{◌or_else◌, ◌unless◌, refused_or}
 use Rattle.interval.specs.declared.Interval.{Interval}
 use Rattle.interval.specs.Boxes.{are_paired, are_boxes, all_sound}
 use Rattle.interval.specs.Domain.{domain_refusal, domain_new, domain_is_empty}

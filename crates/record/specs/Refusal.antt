@@ -2,10 +2,10 @@
 use Rattle.std.specs.Prelude.{ℕ, zero, suc, Bool, true, false, List, eqb, set}
 use Rattle.number.specs.Notation.{if◌then◌else◌}
 
-infixr 20 ◌or-else◌
+infixr 20 ◌or_else◌
 infix 30 ◌unless◌
 -- a refusal, or else a later one
-abbrev pub ◌or-else◌ : ℕ → ℕ → ℕ
+abbrev pub ◌or_else◌ : ℕ → ℕ → ℕ
 zero or_else r = r
 suc n or_else r = suc n
 

@@ -8,7 +8,7 @@ use Rattle.std.proofs.Math.Dec.{eqb}
 use Rattle.std.proofs.Math.ListN.{get_or, length-set}
 use Rattle.std.proofs.Math.Seq.{get_or-set_other}
 use Rattle.number.specs.Notation.{if◌then◌else◌}
-use Rattle.record.specs.Refusal.{◌or-else◌, ◌unless◌, refused_or, first, passing, filled}
+use Rattle.record.specs.Refusal.{◌or_else◌, ◌unless◌, refused_or, first, passing, filled}
 
 -- ---- two tests
 pub both : (a b : Bool) → (a && b) ≡ true → (a ≡ true) × (b ≡ true)

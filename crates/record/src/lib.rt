@@ -12,14 +12,14 @@ pub fn wide(x: u8) -> u32
 
 pub fn read_u32(b: &[u8], at: usize) -> u32
     requires { at + 4 ≤ length b.now }
-    ensures { result ≡ u32_at (old b) at }
+    ensures { result ≡ u32_at b.now at }
 {
     wide(b[at]) + 256 * (wide(b[at + 1]) + 256 * (wide(b[at + 2]) + 256 * wide(b[at + 3])))
 }
 
 pub fn read_u64(b: &[u8], at: usize) -> u64
     requires { at + 8 ≤ length b.now }
-    ensures { result ≡ u64_at (old b) at }
+    ensures { result ≡ u64_at b.now at }
 {
     let low = read_u32(b, at) as u64;
     let high = read_u32(b, at + 4) as u64;
@@ -28,7 +28,7 @@ pub fn read_u64(b: &[u8], at: usize) -> u64
 
 pub fn read_f64(b: &[u8], at: usize) -> f64
     requires { at + 8 ≤ length b.now }
-    ensures { result ≡ f64_at (old b) at }
+    ensures { result ≡ f64_at b.now at }
 {
     number::of_bits(read_u64(b, at))
 }

@@ -2,7 +2,7 @@
 ghost use Rattle.std.specs.Prelude.{◌≡◌};
 ghost use Rattle.settings.specs.Settings as Document;
 
-#[derive(Drop)]
+#[derive(Clone, Copy)]
 pub struct Settings {
     // how often narrowing goes round
     pub rounds: usize,

@@ -44,7 +44,7 @@ fn replays(file: &mut [u8], head: &[u8]) -> bool
     is_same(s, head)
 }
 
-#[derive(Drop)]
+#[derive(Clone, Copy)]
 struct Count {
     same: u64,
     of: u64,
@@ -89,7 +89,7 @@ fn is_seventeen_refused() -> bool {
 }
 
 // Whether an example or an answer came out the same.
-#[derive(Drop)]
+#[derive(Clone, Copy)]
 enum Case {
     End,
     Example(bool),

@@ -8,7 +8,7 @@ use borrow.Author.Tests.{lt-ltb, le-ltb, ltb-true}
 use lib.Dec.{ltb}
 use lib.ListN.{length, get_or}
 use lib.Seq.{sets}
-use Rattle.record.specs.Refusal.{◌or-else◌, ◌unless◌, passing, filled}
+use Rattle.record.specs.Refusal.{◌or_else◌, ◌unless◌, passing, filled}
 use Rattle.record.specs.RefusalLaws.{both, none_both, none_unless, or_else_refused, is_refused, is_answered, passing_all, filled_at}
 use Rattle.tree.specs.Tree.{Tree, size, depth, is_small}
 use Rattle.tree.specs.Nodes.{tree_at, node_refusal, nodes_refusal, nodes_fit, list_refusal, Valid}

@@ -99,12 +99,12 @@ module _ (b : List ℕ) (k : ℕ) (s₀ d₀ s d : List ℕ) (m : ℕ) (p : Pass
       known (Node.Eml i j) h = record {
         left = omega (arith, places, h.0);
         right = omega (arith, places, h.1);
-        left-deep = omega (arith, deep_places, h.0);
-        right-deep = omega (arith, deep_places, h.1);
-        left-size = omega (arith, size_at_lem i h.0, size_small b k valid i h.0);
-        right-size = omega (arith, size_at_lem j h.1, size_small b k valid j h.1);
-        left-depth = omega (arith, depth_at_lem i h.0, depth_small b k valid i h.0);
-        right-depth = omega (arith, depth_at_lem j h.1, depth_small b k valid j h.1);
+        left_deep = omega (arith, deep_places, h.0);
+        right_deep = omega (arith, deep_places, h.1);
+        left_size = omega (arith, size_at_lem i h.0, size_small b k valid i h.0);
+        right_size = omega (arith, size_at_lem j h.1, size_small b k valid j h.1);
+        left_depth = omega (arith, depth_at_lem i h.0, depth_small b k valid i h.0);
+        right_depth = omega (arith, depth_at_lem j h.1, depth_small b k valid j h.1);
       }
 
       pub asked : Known (node_at b k) s d

@@ -1,7 +1,7 @@
 -- `Canonical::ln` and `Canonical::sub` (canonical.rs) on a list of nodes: their trees, the nodes that they append, and their refusals.
 use Rattle.std.specs.Prelude.{ℕ, ◌+◌, ◌*◌, Bool, ◌&&◌, List, [], ◌∷◌, ◌++◌, ltb, length}
 use Rattle.std.proofs.lemmas.List.Edits.{sets}
-use Rattle.record.specs.Refusal.{◌or-else◌, ◌unless◌, refused_or}
+use Rattle.record.specs.Refusal.{◌or_else◌, ◌unless◌, refused_or}
 use Rattle.record.specs.Leaving.{Leaving, ◌leaving◌}
 use Rattle.tree.specs.Tree.{Tree, is_small}
 use Rattle.tree.specs.Nodes.{nodes_fit, tree_at, list_refusal}

@@ -1,7 +1,7 @@
 -- What the functions below the tests compute, in the terms of their arguments.
 use Rattle.std.specs.Prelude.{ℕ, zero, suc, ◌+◌, max, ◌≤◌, ◌<◌, ◌≡◌, Bool, ◌&&◌, List, leb, ltb, eqb, length, get_or}
 use Rattle.number.specs.Notation.{if◌then◌else◌}
-use Rattle.record.specs.Refusal.{◌or-else◌, ◌unless◌, passing}
+use Rattle.record.specs.Refusal.{◌or_else◌, ◌unless◌, passing}
 use Rattle.tree.specs.Tree.{Tree, size, depth}
 use Rattle.tree.specs.Nodes.{nodes_fit, tree_at, node_refusal, list_refusal}
 use Rattle.tree.specs.declared.Sized.{Sized}

@@ -3,7 +3,7 @@ use Rattle.std.specs.Prelude.{ℕ, zero, suc, ◌+◌, ◌*◌, ◌≤◌, ◌<�
 use Rattle.std.specs.Float.Ieee.Scale.{finite}
 use Rattle.number.specs.Notation.{if◌then◌else◌}
 use Rattle.record.specs.Bytes.{u32_at, f64_at}
-use Rattle.record.specs.Refusal.{◌or-else◌, ◌unless◌, first}
+use Rattle.record.specs.Refusal.{◌or_else◌, ◌unless◌, first}
 use Rattle.tree.specs.Tree.{Tree, is_small}
 use Rattle.tree.specs.declared.Node.{Node}
 

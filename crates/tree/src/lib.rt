@@ -16,7 +16,7 @@ ghost use Rattle.tree.specs.Views.{the_tree};
 ghost use Rattle.record.specs.Views.{old, final};
 
 // What a node's record says: a constant, a variable's index, the numbers of two children.
-#[derive(Drop)]
+#[derive(Clone, Copy)]
 pub enum Node {
     One,
     Const(f64),
@@ -67,7 +67,7 @@ fn choose(kind: u32, constant: bool, other: bool) -> bool
 // Whether record k is a node's.
 pub fn is_node(nodes: &[u8], k: usize) -> bool
     requires { 16 * k + 16 ≤ length nodes.now }
-    ensures { result ≡ is_node (old nodes) k }
+    ensures { result ≡ is_node nodes.now k }
 {
     let at = 16 * k;
     let kind = record::read_u32(nodes, at);
@@ -82,7 +82,7 @@ pub fn is_node(nodes: &[u8], k: usize) -> bool
 // Node k, read with no test.
 pub fn node_in(nodes: &[u8], k: usize) -> Node
     requires { 16 * k + 16 ≤ length nodes.now }
-    ensures { result ≡ node_at (old nodes) k }
+    ensures { result ≡ node_at nodes.now k }
 {
     let at = 16 * k;
     let kind = record::read_u32(nodes, at);
@@ -100,7 +100,7 @@ pub fn node_in(nodes: &[u8], k: usize) -> Node
 // ---- the tests of a list
 
 // The expanded size and the depth of a node's tree.
-#[derive(Drop)]
+#[derive(Clone, Copy)]
 struct Sized {
     size: usize,
     depth: usize,
@@ -117,7 +117,7 @@ pub fn larger(x: usize, y: usize) -> usize
 
 fn measure_eml(l: usize, r: usize, size: &[u16], depth: &[u8]) -> Sized
     requires { KnownBoth l r size.now depth.now }
-    ensures { (result.size ≡ 1 + get_or (old size) l 0 + get_or (old size) r 0) × (result.depth ≡ 1 + max (get_or (old depth) l 0) (get_or (old depth) r 0)) }
+    ensures { (result.size ≡ 1 + get_or size.now l 0 + get_or size.now r 0) × (result.depth ≡ 1 + max (get_or depth.now l 0) (get_or depth.now r 0)) }
 {
     Sized {
         size: 1 + size[l] as usize + size[r] as usize,
@@ -128,7 +128,7 @@ fn measure_eml(l: usize, r: usize, size: &[u16], depth: &[u8]) -> Sized
 // A node's, by those of the nodes before it.
 fn measure(node: Node, size: &[u16], depth: &[u8]) -> Sized
     requires { Known node size.now depth.now }
-    ensures { (result.size ≡ size_by node (old size)) × (result.depth ≡ depth_by node (old depth)) }
+    ensures { (result.size ≡ size_by node size.now) × (result.depth ≡ depth_by node depth.now) }
 {
     match node {
         Node::Eml(l, r) => measure_eml(l, r, size, depth),
@@ -139,7 +139,7 @@ fn measure(node: Node, size: &[u16], depth: &[u8]) -> Sized
 }
 
 // The refusal of a list of nodes, or 0; and the size of the largest tree of those that pass.
-#[derive(Drop)]
+#[derive(Clone, Copy)]
 pub struct Tested {
     pub refusal: u8,
     pub largest: usize,
@@ -148,10 +148,10 @@ pub struct Tested {
 // Each of count nodes: 3, then 4. The sizes and depths of those that pass are left in the two lists.
 fn test_nodes(nodes: &[u8], count: usize, size: &mut [u16], depth: &mut [u8]) -> Tested
     requires { (count ≤ 1024) × (16 * count ≤ length nodes.now) × (count ≤ length size.old) × (count ≤ length depth.old) }
-    ensures refusal_value { result.refusal ≡ nodes_refusal (old nodes) count }
-    ensures size_value { final size ≡ filled (size_at (old nodes)) (passing (node_refusal (old nodes)) count) (old size) }
-    ensures depth_value { final depth ≡ filled (depth_at (old nodes)) (passing (node_refusal (old nodes)) count) (old depth) }
-    ensures largest_value { result.largest ≡ largest (old nodes) (passing (node_refusal (old nodes)) count) }
+    ensures refusal_value { result.refusal ≡ nodes_refusal nodes.now count }
+    ensures size_value { final size ≡ filled (size_at nodes.now) (passing (node_refusal nodes.now) count) (old size) }
+    ensures depth_value { final depth ≡ filled (depth_at nodes.now) (passing (node_refusal nodes.now) count) (old depth) }
+    ensures largest_value { result.largest ≡ largest nodes.now (passing (node_refusal nodes.now) count) }
 {
     let mut largest: usize = 0;
     let mut k: usize = 0;
@@ -198,8 +198,8 @@ fn nodes_fit(len: usize, n: usize) -> bool
 
 // A list of count nodes: 2, then each node 3, 4. A short array is quicker to clear.
 pub fn test_sizes(nodes: &[u8], count: usize) -> Tested
-    ensures refusal_value { result.refusal ≡ list_refusal (old nodes) count }
-    ensures largest_value { result.largest ≡ list_largest (old nodes) count }
+    ensures refusal_value { result.refusal ≡ list_refusal nodes.now count }
+    ensures largest_value { result.largest ≡ list_largest nodes.now count }
 {
     if !nodes_fit(nodes.len(), count) {
         return Tested {
@@ -219,7 +219,7 @@ pub fn test_sizes(nodes: &[u8], count: usize) -> Tested
 
 // Its refusal only.
 pub fn test_list(nodes: &[u8], count: usize) -> u8
-    ensures { result ≡ list_refusal (old nodes) count }
+    ensures { result ≡ list_refusal nodes.now count }
 {
     let t = test_sizes(nodes, count);
     t.refusal
@@ -247,14 +247,14 @@ pub fn num_vars(nodes: &[u8], k: usize) -> usize
 // ---- Canonical, on a list of count nodes whose free places are the bytes after them
 
 // The number of the last node appended, or the refusal.
-#[derive(Drop)]
+#[derive(Clone, Copy)]
 pub enum Appended {
     At(usize),
     Refused(u8),
 }
 
 // The refusal so far, and, where there is none, what is known of x and y.
-#[derive(Drop)]
+#[derive(Clone, Copy)]
 struct Operands {
     refusal: u8,
     x: Sized,
@@ -274,7 +274,7 @@ fn refused(refusal: u8) -> Operands
 
 // The list's own tests, then 3 unless x and y name nodes.
 fn measure_operands(nodes: &[u8], count: usize, x: usize, y: usize) -> Operands
-    ensures refusal_value { result.refusal ≡ operands_refusal (old nodes) count x y }
+    ensures refusal_value { result.refusal ≡ operands_refusal nodes.now count x y }
     ensures measured { result.refusal ≡ 0 → Measured (the_tree nodes x) result.x × Measured (the_tree nodes y) result.y }
 {
     if !nodes_fit(nodes.len(), count) {
@@ -325,7 +325,7 @@ fn result_refusal(len: usize, count: usize, more: usize, res: Sized) -> u8
 }
 
 fn ln_refusal(nodes: &[u8], count: usize, x: usize) -> u8
-    ensures { result ≡ ln_refusal (old nodes) count x }
+    ensures { result ≡ ln_refusal nodes.now count x }
 {
     let o = measure_operands(nodes, count, x, x);
     if o.refusal != 0 {
@@ -340,7 +340,7 @@ fn ln_refusal(nodes: &[u8], count: usize, x: usize) -> u8
 }
 
 pub fn sub_refusal(nodes: &[u8], count: usize, x: usize, y: usize) -> u8
-    ensures { result ≡ sub_refusal (old nodes) count x y }
+    ensures { result ≡ sub_refusal nodes.now count x y }
 {
     let o = measure_operands(nodes, count, x, y);
     if o.refusal != 0 {

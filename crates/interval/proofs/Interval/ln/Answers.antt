@@ -1,0 +1,23 @@
+-- `interval::Interval::ln` meets its contract. Assumes nothing.
+use borrow.Author.Rules.{rules}
+use mathlib.Core.Path.{sym, ◌∙◌}
+use borrow.Author.Tests.{not-true, not-false}
+use Rattle.number.specs.Literals.{infinite, minus_infinite}
+use Rattle.number.specs.Notation.{if◌then◌else◌}
+use Rattle.interval.specs.Interval.{ln}
+use Rattle.interval.proofs.Points.{point_ln}
+use Rattle.interval.proofs.Interval.ln.Goals as goal
+
+pub returns-then-not-has_ln : goal.returns-then-not-has_ln
+unfolding ln if◌then◌else◌
+returns-then-not-has_ln c = simp (sym c.has_ln.ensures ∙ not-true _ c.if-not-has_ln.true, c.new.ensures, infinite, minus_infinite)
+
+pub returns-then-self : goal.returns-then-self
+returns-then-self c =
+    let f = c.struct_known-1.given in
+    c.point.ensures ∙ point_ln _ f.0 f.1.0 c.if-self.true _ (sym c.has_ln.ensures ∙ not-false _ c.if-not-has_ln.false) c.quick_ln.ensures
+
+pub returns : goal.returns
+unfolding ln if◌then◌else◌
+returns c =
+    simp (sym c.has_ln.ensures ∙ not-false _ c.if-not-has_ln.false, c.new-2.ensures, c.ln-2.ensures, c.ln.ensures)

@@ -1,0 +1,8 @@
+-- `interval::Interval::minus` meets its contract. Assumes nothing.
+use borrow.Author.Rules.{rules}
+use Rattle.interval.specs.Interval.{minus}
+use Rattle.interval.proofs.Interval.minus.Goals as goal
+
+pub returns : goal.returns
+unfolding minus
+returns c = c.new.ensures

@@ -1,0 +1,52 @@
+-- `maths::complex_ln` meets its contract. Assumes nothing.
+use mathlib.Core.Path.{sym, ◌∙◌}
+use borrow.Author.Rules.{rules}
+use lib.Ieee.{nan_bits}
+use Rattle.number.specs.Notation.{if◌then◌else◌}
+use Rattle.maths.specs.Cplx.{complex_ln, real_ln, other_ln}
+use Rattle.number.specs.Literals.{zero_is}
+use Rattle.maths.proofs.complex_ln.Goals as goal
+
+pub float_from_bits-pi : goal.float_from_bits-pi
+unfolding nan_bits
+float_from_bits-pi c = tt
+
+pub float_from_bits-angle_of : goal.float_from_bits-angle_of
+unfolding nan_bits
+float_from_bits-angle_of c = tt
+
+pub returns-then-sign_bit-2 : goal.returns-then-sign_bit-2
+unfolding complex_ln real_ln if◌then◌else◌
+returns-then-sign_bit-2 c =
+    let p = sym c.sign_bit-then-sign_bit.ensures ∙ c.if-sign_bit-2.true in
+    let q = sym c.sign_bit.ensures ∙ c.if-sign_bit.true in
+    simp (zero_is, c.if-im.true, p, q) (cc (c.quick_ln-size.ensures, c.abs.ensures))
+
+pub returns-then-sign_bit : goal.returns-then-sign_bit
+unfolding complex_ln real_ln if◌then◌else◌
+returns-then-sign_bit c =
+    let p = sym c.sign_bit-then-sign_bit.ensures ∙ c.if-sign_bit-2.false in
+    let q = sym c.sign_bit.ensures ∙ c.if-sign_bit.true in
+    simp (zero_is, c.if-im.true, p, q) (cc (c.quick_ln-size.ensures, c.abs.ensures))
+
+pub returns-then-im : goal.returns-then-im
+unfolding complex_ln real_ln if◌then◌else◌
+returns-then-im c =
+    let q = sym c.sign_bit.ensures ∙ c.if-sign_bit.false in
+    simp (zero_is, c.if-im.true, q) (cc (c.quick_ln-size.ensures, c.abs.ensures))
+
+pub returns-then-b-a : goal.returns-then-b-a
+unfolding complex_ln other_ln if◌then◌else◌
+returns-then-b-a c =
+    let a = c.abs-a.ensures in
+    let b = c.abs-b.ensures in
+    simp (zero_is, c.if-im.false, sym a, sym b, c.if-b-a.true)
+    (cc (c.log_size.ensures, c.atan.ensures, c.angle_of.ensures))
+
+pub returns-else-b-a : goal.returns-else-b-a
+unfolding complex_ln other_ln if◌then◌else◌
+returns-else-b-a c =
+    let a = c.abs-a.ensures in
+    let b = c.abs-b.ensures in
+    simp (zero_is, c.if-im.false, sym a, sym b, c.if-b-a.false)
+    (cc (c.log_size-else-b-a.ensures, c.atan-else-b-a.ensures, c.angle_of-else-b-a.ensures))

@@ -1,0 +1,86 @@
+-- `maths::exp` meets its contract. Assumes nothing.
+use mathlib.Core.Path.{◌≡◌, refl, sym, ◌∙◌, subst}
+use mathlib.Core.Bool.{false}
+use Prim.Native.Nat.{◌<◌, ◌^◌, ◌+◌}
+use native.Mathlib.Omega.{arith}
+use lib.Dec.{T, lit≤}
+use lib.IntN.{negsuc}
+use lib.Signed.{mag}
+use lib.Ieee.{binary64, is_nan, mul, neg, nan_bits, of_bits, of_int}
+use lib.Ieee.Compare.{differs_from_itself}
+use mir.Syntax.{w64}
+use mir.ValLaws.{to_z-of_z}
+use borrow.Author.Rules.{rules}
+use Rattle.number.specs.Near.{nearest, below}
+use Rattle.number.specs.Notation.{if◌then◌else◌, whole, integer, bits}
+use Rattle.maths.specs.Exp.{exp_of, exp_at}
+use Rattle.number.specs.Order.{nan_test}
+use Rattle.number.specs.Literals.{zero_is, infinite}
+use Rattle.number.specs.Cast.{again}
+use Rattle.number.specs.Below.{wider, nearest_small}
+use Rattle.maths.proofs.Range.{bounded, times_log}
+use Rattle.maths.proofs.exp.Goals as goal
+use Rattle.maths.proofs.exp.Goals.{After-nearest-k, Else-x, Else-x-3}
+
+most : whole 710 ≡ bits 0x4086_3000_0000_0000
+unfolding of_int of_bits
+most = refl
+
+least : integer (negsuc 745) ≡ neg (bits 0x4087_5000_0000_0000)
+unfolding of_int of_bits neg
+least = refl
+
+real : (c : Else-x) → is_nan c.args.x ≡ false
+real c = nan_test c.args.x ∙ c.if-x.false
+
+pub returns-then-x : goal.returns-then-x
+unfolding exp_of if◌then◌else◌
+returns-then-x c = simp (nan_test, c.if-x.true) (differs_from_itself c.args.x (subst T (sym c.if-x.true) tt))
+
+pub returns-then-x-2 : goal.returns-then-x-2
+unfolding exp_of if◌then◌else◌
+returns-then-x-2 c = simp (real (goal.at.returns-then-x-2 c).Else-x, most, c.if-x-2.true, infinite)
+
+pub returns-then-x-3 : goal.returns-then-x-3
+unfolding exp_of if◌then◌else◌
+returns-then-x-3 c = simp (real (goal.at.returns-then-x-3 c).Else-x, most, least, c.if-x-2.false, c.if-x-3.true, zero_is)
+
+pub float_from_bits-nearest : goal.float_from_bits-nearest
+unfolding nan_bits
+float_from_bits-nearest c = tt
+
+near : (c : Else-x-3) → T (below 1501 (mul binary64 c.args.x (of_bits binary64 0x3FF71547652B82FE)))
+near c = times_log _ (bounded c.args.x (real c.before.before) c.if-x-2.false c.if-x-3.false)
+
+pub nearest-k-requires : goal.nearest-k-requires
+nearest-k-requires c = wider 1501 (2 ^ 52) _ (lit≤ tt) (near (goal.at.nearest-k-requires c).Else-x-3)
+
+pub float_from_bits-r : goal.float_from_bits-r
+unfolding nan_bits
+float_from_bits-r c = tt
+
+pub float_from_bits-r-2 : goal.float_from_bits-r-2
+unfolding nan_bits
+float_from_bits-r-2 c = tt
+
+k_is : (c : After-nearest-k) → again c.nearest-k.result ≡ c.nearest-k.result
+k_is c = to_z-of_z w64 c.nearest-k.result (record { sfits = c.nearest-k.type_inv })
+
+-- k is small
+small : (c : After-nearest-k) → mag (again c.nearest-k.result) < 1502
+small c =
+    let h : mag (nearest _) < 1501 + 1 = nearest_small 1501 _ (near c.before) in
+    rw (k_is c, c.nearest-k.ensures) (omega arith)
+
+pub float_of-n-requires : goal.float_of-n-requires
+float_of-n-requires c = omega (arith, small (goal.at.float_of-n-requires c).After-nearest-k)
+
+pub scale-requires : goal.scale-requires
+scale-requires c = omega (arith, small (goal.at.scale-requires c).After-nearest-k)
+
+pub returns : goal.returns
+unfolding exp_of exp_at if◌then◌else◌
+returns c =
+    let k = k_is (goal.at.returns c).After-nearest-k in
+    simp (real (goal.at.returns c).Else-x, most, least, c.if-x-2.false, c.if-x-3.false)
+    (cc (k, c.nearest-k.ensures, c.float_of-n.ensures, c.exp_sum.ensures, c.scale.ensures))
