@@ -17,14 +17,14 @@ use Rattle.tree.proofs.test_nodes.Goals.{After-measure-m}
 -- what `measure` tells, and that the record is a node's
 module _ (c : After-measure-m) where
   is : is_node c.args.nodes.now c.loop-k.k ≡ true
-  is = sym c.is_node.ensures ∙ not-false _ c.if-not-is_node.false
+  is = sym c.is_node.ensures ∙ c.if-not-is_node.false
 
   measured :
       let b = c.args.nodes.now in
       (c.measure-m.result.size ≡ size (tree_at b c.loop-k.k)) × (c.measure-m.result.depth ≡ depth (tree_at b c.loop-k.k))
   measured =
       let w = told _ _ _ _ _ _ _ c.loop-k.invariant.1 _ c.loop-k-test.true (omega arith) (omega arith) is (omega arith) (omega arith) in
-      let e = c.Node-in.ensures in
+      let e = c.node_in.ensures in
       (c.measure-m.ensures.0 ∙ ap (λ (m : Node). size_by m c.loop-k.size) e ∙ w.0, c.measure-m.ensures.1 ∙ ap (λ (m : Node). depth_by m c.loop-k.depth) e ∙ w.1)
 
 pub loop-k-init : goal.loop-k-init
@@ -33,12 +33,12 @@ loop-k-init c = (omega arith, record { none = refl; sizes = refl; depths = refl;
 
 pub returns-then-not-is_node : goal.returns-then-not-is_node
 returns-then-not-is_node c =
-    let together = three _ _ _ _ _ _ _ c.loop-k.invariant.1 _ c.loop-k-test.true (omega arith) (omega arith) (sym c.is_node.ensures ∙ not-true _ c.if-not-is_node.true) in record { refusal_value = together.0; size_value = together.1.0; depth_value = together.1.1.0; largest_value = together.1.1.1 }
+    let together = three _ _ _ _ _ _ _ c.loop-k.invariant.1 _ c.loop-k-test.true (omega arith) (omega arith) (sym c.is_node.ensures ∙ c.if-not-is_node.true) in record { refusal_value = together.0; size_value = together.1.0; depth_value = together.1.1.0; largest_value = together.1.1.1 }
 
 pub measure-m-requires : goal.measure-m-requires
 measure-m-requires c =
-    let is = sym c.is_node.ensures ∙ not-false _ c.if-not-is_node.false in
-    subst (λ (m : Node). Known m c.loop-k.size c.loop-k.depth) (sym c.Node-in.ensures)
+    let is = sym c.is_node.ensures ∙ c.if-not-is_node.false in
+    subst (λ (m : Node). Known m c.loop-k.size c.loop-k.depth) (sym c.node_in.ensures)
     (asked _ _ _ _ _ _ _ c.loop-k.invariant.1 _ c.loop-k-test.true (omega arith) (omega arith) is (omega arith) (omega arith))
 
 pub returns-then-m-gt4096 : goal.returns-then-m-gt4096

@@ -10,4 +10,4 @@ write_starting-requires c = (c.requires.0, c.requires.1, c.requires.1)
 
 pub returns : goal.returns
 unfolding boxes_of
-returns c = let w = c.write_starting.ensures in (refl, starting_written _ _ _ _ _ _ w.0 w.1)
+returns c = let w = c.write_starting.ensures in (refl, starting_written _ _ _ _ _ _ w.out_lo_value w.out_hi_value)

@@ -10,14 +10,14 @@ use Rattle.interval.proofs.Interval.ln.Goals as goal
 
 pub returns-then-not-has_ln : goal.returns-then-not-has_ln
 unfolding ln if◌then◌else◌
-returns-then-not-has_ln c = simp (sym c.has_ln.ensures ∙ not-true _ c.if-not-has_ln.true, c.new.ensures, infinite, minus_infinite)
+returns-then-not-has_ln c = simp (sym c.has_ln.ensures ∙ c.if-not-has_ln.true, c.new.ensures, infinite, minus_infinite)
 
 pub returns-then-self : goal.returns-then-self
 returns-then-self c =
     let f = c.struct_known-1.given in
-    c.point.ensures ∙ point_ln _ f.0 f.1.0 c.if-self.true _ (sym c.has_ln.ensures ∙ not-false _ c.if-not-has_ln.false) c.quick_ln.ensures
+    c.point.ensures ∙ point_ln _ f.0 f.1.0 c.if-self.true _ (sym c.has_ln.ensures ∙ c.if-not-has_ln.false) c.quick_ln.ensures
 
 pub returns : goal.returns
 unfolding ln if◌then◌else◌
 returns c =
-    simp (sym c.has_ln.ensures ∙ not-false _ c.if-not-has_ln.false, c.new-2.ensures, c.ln-2.ensures, c.ln.ensures)
+    simp (sym c.has_ln.ensures ∙ c.if-not-has_ln.false, c.new-2.ensures, c.ln-2.ensures, c.ln.ensures)
