@@ -1,0 +1,22 @@
+-- What each turn of the loop keeps, and what falls.
+use Prim.Native.Nat.{◌-◌, ◌≤◌}
+use mathlib.Core.Path.{◌≡◌, refl, sym, ap, ◌∙◌}
+use native.Mathlib.Omega.{arith}
+use borrow.Author.Tests.{not-true, not-false}
+use lib.ListN.{length, length-set}
+use Rattle.constraint.specs.Starts.{begun}
+use Rattle.constraint.specs.Records.{takes, finished, formula_at}
+use Rattle.constraint.specs.Constraint.{levels, quantifiers}
+use Rattle.record.specs.Refusal.{first, filled}
+use Rattle.constraint.proofs.Stack.{Stacked, Begun, five_record, five_few, six, seven_depth, seven_quant, depth_told, quant_told, stacked, start_told, begins, stop, one_left, not_one}
+use Rattle.constraint.proofs.test_records.Given as goal
+
+abbrev pub invariant-loop-k : goal.invariant-loop-k
+invariant-loop-k l =
+    (l.k ≤ l.n) × (l.top ≤ l.k) × (length l.depth ≡ 256) × (length l.quantifiers ≡ 256) × (length l.begins ≡ 256) × (length l.starts ≡ 256)
+    × Begun l.constraints l.k l.top l.begins l.initial.starts l.starts
+    × Stacked l.count l.constraints l.k l.top l.depth l.quantifiers
+
+abbrev pub decreases-loop-k : goal.decreases-loop-k
+decreases-loop-k l =
+    l.n - l.k
