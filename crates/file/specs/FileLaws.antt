@@ -43,7 +43,7 @@ laid file e =
     let w₃ = both (a && b && c) x w₄.0 in
     let w₂ = both (a && b) c w₃.0 in
     let w₁ = both a b w₂.0 in
-    record { few-nodes = leb-true _ _ w₁.0; few-constraints = leb-true _ _ w₁.1; few-bounds = leb-true _ _ w₂.1; size = eqb-true _ _ w₆.1 }
+    record { few_nodes = leb-true _ _ w₁.0; few_constraints = leb-true _ _ w₁.1; few_bounds = leb-true _ _ w₂.1; size = eqb-true _ _ w₆.1 }
 
 module _ (file : List ℕ) (l : Laid file) where
   pub length_nodes : length (nodes_of file) ≡ 16 * node_count file
