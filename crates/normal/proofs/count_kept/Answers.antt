@@ -1,0 +1,23 @@
+-- `normal::count_kept` meets its contract. Assumes nothing.
+use mathlib.Core.Path.{◌≡◌, refl, ap, ◌∙◌}
+use Prim.Native.Nat.{◌-◌, ◌≤◌}
+use native.Mathlib.Omega.{arith}
+use native.Mathlib.Nat.{le_antisymm}
+use borrow.Author.Rules.{rules}
+use Rattle.normal.specs.Given.{count_kept}
+use Rattle.normal.proofs.Calls.{kept_next}
+use Rattle.normal.proofs.count_kept.Goals as goal
+
+pub loop-k-init : goal.loop-k-init
+unfolding count_kept
+loop-k-init c = (omega arith, omega arith, refl)
+
+pub overflow_add-count : goal.overflow_add-count
+overflow_add-count c = omega (arith, c.kept_of-count.ensures.1)
+
+pub loop-k-preserved : goal.loop-k-preserved
+loop-k-preserved c =
+    (omega arith, omega (arith, c.kept_of-count.ensures.1), kept_next _ _ c.loop-k.invariant.2 c.record_in.ensures c.kept_of-count.ensures.0)
+
+pub returns : goal.returns
+returns c = c.loop-k.invariant.2 ∙ ap (count_kept _) (le_antisymm c.loop-k.invariant.0 c.loop-k-test.false)
