@@ -26,7 +26,7 @@ pub enum Verdict {
 
 // The number of a refusal, or 0; the verdict; the point of a witness or a counterexample, `count` values. What there is not is 0, and the
 // verdict of a refusal is Unknown.
-#[derive(Drop)]
+#[derive(Clone, Copy)]
 pub struct Decided {
     pub refusal: u8,
     pub verdict: Verdict,

@@ -219,7 +219,7 @@ fn write_starting(lo: &[f64], hi: &[f64], n: usize, out_lo: &mut [f64], out_hi: 
 }
 
 // A list of at most 16 boxes by value (IntervalDomain of interval.rs): the first `count` ends of each kind.
-#[derive(Drop)]
+#[derive(Clone, Copy)]
 pub struct Boxes {
     pub lo: [f64; 16],
     pub hi: [f64; 16],

@@ -69,7 +69,7 @@ fn store(list: &mut [Interval], boxes: Boxes)
 
 // ---- narrowing
 
-#[derive(Drop)]
+#[derive(Clone, Copy)]
 pub struct Narrowed {
     pub answer: Propagated,
     pub boxes: Boxes,

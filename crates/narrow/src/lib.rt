@@ -488,7 +488,7 @@ fn hull_boxes(a: Boxes, b: Boxes) -> Boxes
 }
 
 // Whether a branch of an Or survived, and the hull of those that did.
-#[derive(Drop)]
+#[derive(Clone, Copy)]
 pub struct Survivors {
     pub any: bool,
     pub hull: Boxes,
@@ -513,7 +513,7 @@ fn survive(before: Survivors, res: PropResult, b: Boxes) -> Survivors
 }
 
 // A box after an Or, and whether it is another one.
-#[derive(Drop)]
+#[derive(Clone, Copy)]
 pub struct Tightened {
     pub result: PropResult,
     pub interval: Interval,
@@ -842,7 +842,7 @@ pub fn propagate(
 }
 
 // Boxes by value, and what narrowing them answered.
-#[derive(Drop)]
+#[derive(Clone, Copy)]
 pub struct NarrowedBoxes {
     pub result: PropResult,
     pub boxes: Boxes,

@@ -34,7 +34,7 @@ pub fn stop_number(stop: Stop) -> u8
 
 // The number of a refusal, or 0; the stop word; of an assignment its exactness and its point, `count` values; of any other answer its residual; the
 // halvings. What an answer does not have is 0, false or, of a refusal, Unsatisfied.
-#[derive(Drop)]
+#[derive(Clone, Copy)]
 pub struct Solved {
     pub refusal: u8,
     pub stop: Stop,

@@ -19,7 +19,7 @@ pub enum Step {
     Tolerance(f64),
 }
 
-#[derive(Drop)]
+#[derive(Clone, Copy)]
 pub struct Run {
     pub step: Step,
     pub boxes: Boxes,
