@@ -2,7 +2,7 @@
 // boxes are two lent lists of ends.
 ghost use Rattle.std.specs.Prelude.{◌≡◌, ◌+◌, ◌≤◌, length};
 ghost use Rattle.interval.specs.Interval as Intervals;
-ghost use Rattle.interval.specs.Boxes.{boxes_of};
+ghost use Rattle.interval.specs.Boxes.{intervals, boxes_of};
 ghost use Rattle.tree.specs.Nodes.{Valid};
 ghost use Rattle.record.specs.Leaving.{◌leaving◌};
 ghost use Rattle.tree.specs.Views.{the_tree};
