@@ -1,0 +1,11 @@
+-- `nra::halving::better` meets its contract. Assumes nothing.
+use Rattle.number.specs.Notation.{if◌then◌else◌}
+use Rattle.nra.proofs.halving.better.Goals as goal
+
+pub returns-then-low-high : goal.returns-then-low-high
+unfolding if◌then◌else◌
+returns-then-low-high c = rw c.if-low-high.true
+
+pub returns : goal.returns
+unfolding if◌then◌else◌
+returns c = rw c.if-low-high.false
