@@ -38,8 +38,8 @@ returns-then-are_sound c =
     let ok = c.narrow_boxes-x.type_inv.1.1.1.0.1.1 in
     record {
       count = c.narrow_boxes-x.ensures.0;
-      lows = length_unmapped Float c.narrow_boxes-x.result.boxes.lo 16 ok.0.1.0.1;
-      highs = length_unmapped Float c.narrow_boxes-x.result.boxes.hi 16 ok.1.0.1.0.1;
+      lows = ok.0.1.0.1;
+      highs = ok.1.0.1.0.1;
       whole = boxes_taken _ _ _ _ (sym c.test_given-r.ensures.value ∙ c.if-r-ne0.false) (sym c.are_sound.ensures ∙ c.if-are_sound.true) (ap (answered (λ x. x)) (rw c.usual-settings.ensures at c.narrow_boxes-x.ensures.1));
     }
 
