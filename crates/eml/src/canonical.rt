@@ -19,15 +19,13 @@ fn number_of(answer: Appended) -> u8
     }
 }
 
-#[unsafe(no_mangle)]
-pub extern "C" fn eml_canonical_ln(nodes: &mut [u8], count: usize, x: usize) -> u8
+pub fn eml_canonical_ln(nodes: &mut [u8], count: usize, x: usize) -> u8
     ensures { (result leaving final nodes) ≡ appended (Canonical.ln (old nodes) count x) }
 {
     number_of(tree::Canonical::ln(nodes, count, x))
 }
 
-#[unsafe(no_mangle)]
-pub extern "C" fn eml_canonical_sub(nodes: &mut [u8], count: usize, x: usize, y: usize) -> u8
+pub fn eml_canonical_sub(nodes: &mut [u8], count: usize, x: usize, y: usize) -> u8
     ensures { (result leaving final nodes) ≡ appended (Canonical.sub (old nodes) count x y) }
 {
     number_of(tree::Canonical::sub(nodes, count, x, y))
@@ -35,29 +33,25 @@ pub extern "C" fn eml_canonical_sub(nodes: &mut [u8], count: usize, x: usize, y:
 
 // The comparisons append as sub does, and write the atom's record to the first 24 bytes of `out`.
 
-#[unsafe(no_mangle)]
-pub extern "C" fn eml_lt(nodes: &mut [u8], count: usize, x: usize, y: usize, out: &mut [u8]) -> u8
+pub fn eml_lt(nodes: &mut [u8], count: usize, x: usize, y: usize, out: &mut [u8]) -> u8
     ensures { (result leaving (final nodes, final out)) ≡ appended (compared Relation.LtZero (old nodes) count x y (old out)) }
 {
     number_of(constraint::lt(nodes, count, x, y, out))
 }
 
-#[unsafe(no_mangle)]
-pub extern "C" fn eml_le(nodes: &mut [u8], count: usize, x: usize, y: usize, out: &mut [u8]) -> u8
+pub fn eml_le(nodes: &mut [u8], count: usize, x: usize, y: usize, out: &mut [u8]) -> u8
     ensures { (result leaving (final nodes, final out)) ≡ appended (compared Relation.LeZero (old nodes) count x y (old out)) }
 {
     number_of(constraint::le(nodes, count, x, y, out))
 }
 
-#[unsafe(no_mangle)]
-pub extern "C" fn eml_gt(nodes: &mut [u8], count: usize, x: usize, y: usize, out: &mut [u8]) -> u8
+pub fn eml_gt(nodes: &mut [u8], count: usize, x: usize, y: usize, out: &mut [u8]) -> u8
     ensures { (result leaving (final nodes, final out)) ≡ appended (compared Relation.GtZero (old nodes) count x y (old out)) }
 {
     number_of(constraint::gt(nodes, count, x, y, out))
 }
 
-#[unsafe(no_mangle)]
-pub extern "C" fn eml_ge(nodes: &mut [u8], count: usize, x: usize, y: usize, out: &mut [u8]) -> u8
+pub fn eml_ge(nodes: &mut [u8], count: usize, x: usize, y: usize, out: &mut [u8]) -> u8
     ensures { (result leaving (final nodes, final out)) ≡ appended (compared Relation.GeZero (old nodes) count x y (old out)) }
 {
     number_of(constraint::ge(nodes, count, x, y, out))

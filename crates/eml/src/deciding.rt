@@ -36,8 +36,7 @@ fn write_decided(answer: Decided, verdict: &mut u8, count: &mut usize, point: &m
 
 // Whether the constraint holds for every value of variable `var` in [lo, hi]. `verdict` is 0 for True, 1 TrueWithWitness, 2 FalseWithCounterexample, 3
 // Unknown; the first `count` places of `point` are the counterexample, and those past it stay. 10 where `point` has fewer places than variables.
-#[unsafe(no_mangle)]
-pub extern "C" fn eml_decide_forall(
+pub fn eml_decide_forall(
     nodes: &[u8],
     constraints: &[u8],
     var: usize,
@@ -55,8 +54,7 @@ pub extern "C" fn eml_decide_forall(
 }
 
 // Whether it holds for some value; the point is the witness.
-#[unsafe(no_mangle)]
-pub extern "C" fn eml_decide_exists(
+pub fn eml_decide_exists(
     nodes: &[u8],
     constraints: &[u8],
     var: usize,

@@ -5,8 +5,7 @@ ghost use Rattle.record.specs.Leaving.{◌leaving◌};
 ghost use Rattle.record.specs.Views.{old, final};
 
 // The bounds of `num_vars` variables, [-10, 10] for a missing one, to the first places of `out_lo` and `out_hi`.
-#[unsafe(no_mangle)]
-pub extern "C" fn eml_domain_new(
+pub fn eml_domain_new(
     lo: &[f64],
     hi: &[f64],
     num_vars: usize,
@@ -19,8 +18,7 @@ pub extern "C" fn eml_domain_new(
 }
 
 // Whether any interval is empty, to `out`. The ends may be any f64.
-#[unsafe(no_mangle)]
-pub extern "C" fn eml_domain_is_empty(lo: &[f64], hi: &[f64], out: &mut bool) -> u8
+pub fn eml_domain_is_empty(lo: &[f64], hi: &[f64], out: &mut bool) -> u8
     ensures { (result leaving final out) ≡ domain_is_empty lo.now hi.now (old out) }
 {
     interval::domain_is_empty(lo, hi, out)

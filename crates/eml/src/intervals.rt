@@ -5,43 +5,32 @@ ghost use Rattle.record.specs.Views.{final};
 
 use interval::Interval;
 
-#[unsafe(no_mangle)]
-pub extern "C" fn eml_interval_is_empty(lo: f64, hi: f64) -> bool
+pub fn eml_interval_is_empty(lo: f64, hi: f64) -> bool
     ensures { result ≡ is_empty (lo ‥ hi) }
 {
     Interval { lo, hi }.is_empty()
 }
 
-#[unsafe(no_mangle)]
-pub extern "C" fn eml_interval_width(lo: f64, hi: f64) -> f64
+pub fn eml_interval_width(lo: f64, hi: f64) -> f64
     ensures { result ≡ width (lo ‥ hi) }
 {
     Interval { lo, hi }.width()
 }
 
-#[unsafe(no_mangle)]
-pub extern "C" fn eml_interval_midpoint(lo: f64, hi: f64) -> f64
+pub fn eml_interval_midpoint(lo: f64, hi: f64) -> f64
     ensures { result ≡ midpoint (lo ‥ hi) }
 {
     Interval { lo, hi }.midpoint()
 }
 
-#[unsafe(no_mangle)]
-pub extern "C" fn eml_interval_contains(lo: f64, hi: f64, x: f64) -> bool
+pub fn eml_interval_contains(lo: f64, hi: f64, x: f64) -> bool
     ensures { result ≡ contains (lo ‥ hi) x }
 {
     Interval { lo, hi }.contains(x)
 }
 
 // The lower half to [low, middle] and the upper to [middle, high].
-#[unsafe(no_mangle)]
-pub extern "C" fn eml_interval_split(
-    lo: f64,
-    hi: f64,
-    low: &mut f64,
-    middle: &mut f64,
-    high: &mut f64,
-)
+pub fn eml_interval_split(lo: f64, hi: f64, low: &mut f64, middle: &mut f64, high: &mut f64)
     ensures { record { lower = final low ‥ final middle; upper = final middle ‥ final high } ≡ split (lo ‥ hi) }
 {
     let halves = Interval { lo, hi }.split();
@@ -52,8 +41,7 @@ pub extern "C" fn eml_interval_split(
     *high = upper.hi;
 }
 
-#[unsafe(no_mangle)]
-pub extern "C" fn eml_interval_intersect(
+pub fn eml_interval_intersect(
     lo: f64,
     hi: f64,
     other: f64,
@@ -71,15 +59,7 @@ pub extern "C" fn eml_interval_intersect(
     *high = r.hi;
 }
 
-#[unsafe(no_mangle)]
-pub extern "C" fn eml_interval_hull(
-    lo: f64,
-    hi: f64,
-    other: f64,
-    another: f64,
-    low: &mut f64,
-    high: &mut f64,
-)
+pub fn eml_interval_hull(lo: f64, hi: f64, other: f64, another: f64, low: &mut f64, high: &mut f64)
     ensures { (final low ‥ final high) ≡ hull (lo ‥ hi) (other ‥ another) }
 {
     let r = Interval { lo, hi }.hull(Interval {
@@ -90,8 +70,7 @@ pub extern "C" fn eml_interval_hull(
     *high = r.hi;
 }
 
-#[unsafe(no_mangle)]
-pub extern "C" fn eml_interval_exp(lo: f64, hi: f64, low: &mut f64, high: &mut f64)
+pub fn eml_interval_exp(lo: f64, hi: f64, low: &mut f64, high: &mut f64)
     ensures { (final low ‥ final high) ≡ exp (lo ‥ hi) }
 {
     let r = Interval { lo, hi }.exp();
@@ -99,8 +78,7 @@ pub extern "C" fn eml_interval_exp(lo: f64, hi: f64, low: &mut f64, high: &mut f
     *high = r.hi;
 }
 
-#[unsafe(no_mangle)]
-pub extern "C" fn eml_interval_ln(lo: f64, hi: f64, low: &mut f64, high: &mut f64)
+pub fn eml_interval_ln(lo: f64, hi: f64, low: &mut f64, high: &mut f64)
     ensures { (final low ‥ final high) ≡ ln (lo ‥ hi) }
 {
     let r = Interval { lo, hi }.ln();
@@ -108,8 +86,7 @@ pub extern "C" fn eml_interval_ln(lo: f64, hi: f64, low: &mut f64, high: &mut f6
     *high = r.hi;
 }
 
-#[unsafe(no_mangle)]
-pub extern "C" fn eml_interval_exp_inv(lo: f64, hi: f64, low: &mut f64, high: &mut f64)
+pub fn eml_interval_exp_inv(lo: f64, hi: f64, low: &mut f64, high: &mut f64)
     ensures { (final low ‥ final high) ≡ ln (lo ‥ hi) }
 {
     let r = Interval { lo, hi }.exp_inv();
@@ -117,8 +94,7 @@ pub extern "C" fn eml_interval_exp_inv(lo: f64, hi: f64, low: &mut f64, high: &m
     *high = r.hi;
 }
 
-#[unsafe(no_mangle)]
-pub extern "C" fn eml_interval_ln_inv(lo: f64, hi: f64, low: &mut f64, high: &mut f64)
+pub fn eml_interval_ln_inv(lo: f64, hi: f64, low: &mut f64, high: &mut f64)
     ensures { (final low ‥ final high) ≡ exp (lo ‥ hi) }
 {
     let r = Interval { lo, hi }.ln_inv();
@@ -126,8 +102,7 @@ pub extern "C" fn eml_interval_ln_inv(lo: f64, hi: f64, low: &mut f64, high: &mu
     *high = r.hi;
 }
 
-#[unsafe(no_mangle)]
-pub extern "C" fn eml_interval_new(lo: f64, hi: f64, low: &mut f64, high: &mut f64)
+pub fn eml_interval_new(lo: f64, hi: f64, low: &mut f64, high: &mut f64)
     ensures { (final low ‥ final high) ≡ (lo ‥ hi) }
 {
     let r = Interval::new(lo, hi);
@@ -135,8 +110,7 @@ pub extern "C" fn eml_interval_new(lo: f64, hi: f64, low: &mut f64, high: &mut f
     *high = r.hi;
 }
 
-#[unsafe(no_mangle)]
-pub extern "C" fn eml_interval_point(v: f64, low: &mut f64, high: &mut f64)
+pub fn eml_interval_point(v: f64, low: &mut f64, high: &mut f64)
     ensures { (final low ‥ final high) ≡ (v ‥ v) }
 {
     let r = Interval::point(v);

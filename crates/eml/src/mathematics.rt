@@ -11,44 +11,38 @@ ghost use Rattle.maths.specs.Trig.{sin_of, cos_of, atan_of};
 ghost use Rattle.maths.specs.Cplx.{complex_exp, complex_ln};
 ghost use Rattle.record.specs.Views.{final};
 
-#[unsafe(no_mangle)]
-pub extern "C" fn eml_exp(x: f64) -> f64
+pub fn eml_exp(x: f64) -> f64
     ensures { result ≡ exp_of x }
 {
     maths::exp(x)
 }
 
-#[unsafe(no_mangle)]
-pub extern "C" fn eml_ln(x: f64) -> f64
+pub fn eml_ln(x: f64) -> f64
     ensures { result ≡ ln_of x }
 {
     maths::ln(x)
 }
 
-#[unsafe(no_mangle)]
-pub extern "C" fn eml_sin(x: f64) -> f64
+pub fn eml_sin(x: f64) -> f64
     ensures { result ≡ sin_of x }
 {
     maths::sin(x)
 }
 
-#[unsafe(no_mangle)]
-pub extern "C" fn eml_cos(x: f64) -> f64
+pub fn eml_cos(x: f64) -> f64
     ensures { result ≡ cos_of x }
 {
     maths::cos(x)
 }
 
-#[unsafe(no_mangle)]
-pub extern "C" fn eml_atan(x: f64) -> f64
+pub fn eml_atan(x: f64) -> f64
     ensures { result ≡ atan_of x }
 {
     maths::atan(x)
 }
 
 // Writes the result to real and imag.
-#[unsafe(no_mangle)]
-pub extern "C" fn eml_complex_exp(re: f64, im: f64, real: &mut f64, imag: &mut f64)
+pub fn eml_complex_exp(re: f64, im: f64, real: &mut f64, imag: &mut f64)
     ensures { record { re = final real; im = final imag } ≡ complex_exp (record { re = re; im = im }) }
 {
     let z = maths::complex_exp(maths::Complex { re, im });
@@ -56,8 +50,7 @@ pub extern "C" fn eml_complex_exp(re: f64, im: f64, real: &mut f64, imag: &mut f
     *imag = z.im;
 }
 
-#[unsafe(no_mangle)]
-pub extern "C" fn eml_complex_ln(re: f64, im: f64, real: &mut f64, imag: &mut f64)
+pub fn eml_complex_ln(re: f64, im: f64, real: &mut f64, imag: &mut f64)
     ensures { record { re = final real; im = final imag } ≡ complex_ln (record { re = re; im = im }) }
 {
     let z = maths::complex_ln(maths::Complex { re, im });
@@ -65,57 +58,49 @@ pub extern "C" fn eml_complex_ln(re: f64, im: f64, real: &mut f64, imag: &mut f6
     *imag = z.im;
 }
 
-#[unsafe(no_mangle)]
-pub extern "C" fn eml_max(a: f64, b: f64) -> f64
+pub fn eml_max(a: f64, b: f64) -> f64
     ensures { result ≡ max_of a b }
 {
     number::max(a, b)
 }
 
-#[unsafe(no_mangle)]
-pub extern "C" fn eml_min(a: f64, b: f64) -> f64
+pub fn eml_min(a: f64, b: f64) -> f64
     ensures { result ≡ min_of a b }
 {
     number::min(a, b)
 }
 
-#[unsafe(no_mangle)]
-pub extern "C" fn eml_abs(x: f64) -> f64
+pub fn eml_abs(x: f64) -> f64
     ensures { result ≡ abs_of x }
 {
     number::abs(x)
 }
 
-#[unsafe(no_mangle)]
-pub extern "C" fn eml_sign_bit(x: f64) -> bool
+pub fn eml_sign_bit(x: f64) -> bool
     ensures { result ≡ sign_bit x }
 {
     number::sign_bit(x)
 }
 
-#[unsafe(no_mangle)]
-pub extern "C" fn eml_next_up(x: f64) -> f64
+pub fn eml_next_up(x: f64) -> f64
     ensures { result ≡ next_up binary64 x }
 {
     number::next_up(x)
 }
 
-#[unsafe(no_mangle)]
-pub extern "C" fn eml_next_down(x: f64) -> f64
+pub fn eml_next_down(x: f64) -> f64
     ensures { result ≡ next_down binary64 x }
 {
     number::next_down(x)
 }
 
-#[unsafe(no_mangle)]
-pub extern "C" fn eml_of_bits(b: u64) -> f64
+pub fn eml_of_bits(b: u64) -> f64
     ensures { result ≡ of_bits binary64 b }
 {
     number::of_bits(b)
 }
 
-#[unsafe(no_mangle)]
-pub extern "C" fn eml_bits_of(x: f64) -> u64
+pub fn eml_bits_of(x: f64) -> u64
     ensures { result ≡ to_bits binary64 x }
 {
     number::bits_of(x)

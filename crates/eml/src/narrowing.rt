@@ -33,8 +33,7 @@ fn write_propagated(x: Propagated, answer: &mut u8) -> u8
 }
 
 // Narrows the boxes. `answer` is 0 for Changed, 1 Stable, 2 Conflict; a refusal leaves it and the boxes as they were.
-#[unsafe(no_mangle)]
-pub extern "C" fn eml_propagate(
+pub fn eml_propagate(
     nodes: &[u8],
     constraints: &[u8],
     lo: &mut [f64],
@@ -48,8 +47,7 @@ pub extern "C" fn eml_propagate(
 }
 
 // The same on the caller's own list of intervals.
-#[unsafe(no_mangle)]
-pub extern "C" fn eml_propagate_intervals(
+pub fn eml_propagate_intervals(
     nodes: &[u8],
     constraints: &[u8],
     boxes: &mut [Interval],

@@ -8,13 +8,7 @@ ghost use Rattle.eml.specs.Answers.{writing, normalised};
 use normal::Nnf;
 
 // Writes the records of the normal form into `out` and their number into `records`; a refusal leaves both as they were.
-#[unsafe(no_mangle)]
-pub extern "C" fn eml_to_nnf(
-    nodes: &[u8],
-    constraints: &[u8],
-    out: &mut [u8],
-    records: &mut usize,
-) -> u8
+pub fn eml_to_nnf(nodes: &[u8], constraints: &[u8], out: &mut [u8], records: &mut usize) -> u8
     ensures { (result leaving (final records, final out)) ≡ writing normalised (to_nnf_given nodes.now constraints.now (old out)) (old records) }
 {
     match normal::to_nnf_given(nodes, constraints, out) {

@@ -10,13 +10,7 @@ use point::eval::EvalError;
 use point::{CheckAnswer, EvalAnswer, ResidualAnswer};
 
 // Whether the point passes the check, to `passes`.
-#[unsafe(no_mangle)]
-pub extern "C" fn eml_check(
-    nodes: &[u8],
-    constraints: &[u8],
-    point: &[f64],
-    passes: &mut bool,
-) -> u8
+pub fn eml_check(nodes: &[u8], constraints: &[u8], point: &[f64], passes: &mut bool) -> u8
     ensures { (result leaving final passes) ≡ checked (check_answer usual nodes.now constraints.now point.now) (old passes) }
 {
     match point::check_constraint(nodes, constraints, point) {
@@ -29,8 +23,7 @@ pub extern "C" fn eml_check(
 }
 
 // The point's residual, to `out`.
-#[unsafe(no_mangle)]
-pub extern "C" fn eml_residual(nodes: &[u8], constraints: &[u8], point: &[f64], out: &mut f64) -> u8
+pub fn eml_residual(nodes: &[u8], constraints: &[u8], point: &[f64], out: &mut f64) -> u8
     ensures { (result leaving final out) ≡ measured (residual_answer usual nodes.now constraints.now point.now) (old out) }
 {
     match point::residual(nodes, constraints, point) {
@@ -73,8 +66,7 @@ fn write_error(
 
 // A node's value at the point. `kind` is 0 for a value, 1 VarOutOfBounds, 2 NanEncountered, 3 ComplexResult, 4 ExpOverflow; `value` is the value, or the
 // number that 3 and 4 carry; `index` and `count` are what 1 carries. A place that the answer has nothing for stays.
-#[unsafe(no_mangle)]
-pub extern "C" fn eml_eval_real(
+pub fn eml_eval_real(
     nodes: &[u8],
     node: usize,
     point: &[f64],

@@ -10,24 +10,21 @@ ghost use Rattle.eml.specs.Answers.{valued};
 use file::Answer;
 
 // The refusal of a file, or 0.
-#[unsafe(no_mangle)]
-pub extern "C" fn eml_read(bytes: &[u8]) -> u8
+pub fn eml_read(bytes: &[u8]) -> u8
     ensures { result ≡ refusal bytes.now }
 {
     file::read(bytes)
 }
 
 // The refusal of records, or 0.
-#[unsafe(no_mangle)]
-pub extern "C" fn eml_read_records(nodes: &[u8], constraints: &[u8]) -> u8
+pub fn eml_read_records(nodes: &[u8], constraints: &[u8]) -> u8
     ensures { result ≡ given_refusal nodes.now constraints.now }
 {
     file::read_given(nodes, constraints)
 }
 
 // The number of variables of a file's constraint, to `out`.
-#[unsafe(no_mangle)]
-pub extern "C" fn eml_num_vars(bytes: &[u8], out: &mut u64) -> u8
+pub fn eml_num_vars(bytes: &[u8], out: &mut u64) -> u8
     ensures { (result leaving final out) ≡ valued (answered num_vars (read_file bytes.now)) (old out) }
 {
     match file::num_vars(bytes) {
@@ -40,8 +37,7 @@ pub extern "C" fn eml_num_vars(bytes: &[u8], out: &mut u64) -> u8
 }
 
 // The number of variables of the constraint of records, to `out`.
-#[unsafe(no_mangle)]
-pub extern "C" fn eml_num_vars_records(nodes: &[u8], constraints: &[u8], out: &mut u64) -> u8
+pub fn eml_num_vars_records(nodes: &[u8], constraints: &[u8], out: &mut u64) -> u8
     ensures { (result leaving final out) ≡ valued (answered num_vars (read_given nodes.now constraints.now)) (old out) }
 {
     match file::num_vars_given(nodes, constraints) {

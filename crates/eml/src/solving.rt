@@ -36,8 +36,7 @@ fn write_solved(
 
 // Solves a house file. `stop` is 0 for assignment, 1 conflict, 2 tolerance, 3 limit, 4 unsatisfied. An assignment has its values in the first
 // `count` places of `point`; any other answer has its residual. 10 where there are fewer places than variables. A refusal leaves every place as it was.
-#[unsafe(no_mangle)]
-pub extern "C" fn eml_solve_file(
+pub fn eml_solve_file(
     file: &[u8],
     limit: usize,
     tolerance: f64,
@@ -55,8 +54,7 @@ pub extern "C" fn eml_solve_file(
 }
 
 // Solves records with bounds, and answers as `eml_solve_file` does.
-#[unsafe(no_mangle)]
-pub extern "C" fn eml_solve(
+pub fn eml_solve(
     nodes: &[u8],
     constraints: &[u8],
     lo: &[f64],
