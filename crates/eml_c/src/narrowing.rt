@@ -1,0 +1,35 @@
+// The exports of `eml::narrowing`.
+ghost use Rattle.std.specs.Prelude.{◌≡◌};
+ghost use Rattle.record.specs.Leaving.{◌leaving◌};
+ghost use Rattle.settings.specs.Settings.{usual};
+ghost use Rattle.narrow.specs.Given.{result_number, propagate_given};
+ghost use Rattle.lent.specs.Lent.{propagate_lent};
+ghost use Rattle.record.specs.Views.{old, final};
+ghost use Rattle.eml.specs.Answers.{writing, propagated};
+
+use interval::Interval;
+
+#[unsafe(no_mangle)]
+pub extern "C" fn eml_propagate(
+    nodes: &[u8],
+    constraints: &[u8],
+    lo: &mut [f64],
+    hi: &mut [f64],
+    answer: &mut u8,
+) -> u8
+    ensures { (result leaving (final answer, (final lo, final hi))) ≡ writing propagated (propagate_given usual nodes.now constraints.now (old lo) (old hi)) (old answer) }
+{
+    eml::narrowing::eml_propagate(nodes, constraints, lo, hi, answer)
+}
+
+#[unsafe(no_mangle)]
+pub extern "C" fn eml_propagate_intervals(
+    nodes: &[u8],
+    constraints: &[u8],
+    boxes: &mut [Interval],
+    answer: &mut u8,
+) -> u8
+    ensures { (result leaving (final answer, final boxes)) ≡ writing propagated (propagate_lent usual nodes.now constraints.now (old boxes)) (old answer) }
+{
+    eml::narrowing::eml_propagate_intervals(nodes, constraints, boxes, answer)
+}
