@@ -1,5 +1,5 @@
 /*
- * The calls of the proved stretch solver (target/staticlib/libeml.a, which `rt staticlib eml` writes).
+ * The calls of the proved stretch solver (target/staticlib/libeml.a, which `tools/library` writes).
  *
  * Every answer is fixed to the bit by document 01, and the code behind each call is proved to give it. Nothing is allocated,
  * nothing is kept between calls, and any thread may call.
