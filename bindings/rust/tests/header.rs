@@ -1,9 +1,8 @@
 //! That eml.h has the package's version, numbers and words.
 
 use eml::calls::{self, DecidePlaces, EvalPlaces};
-use eml::{
-    Constraint, Interval, Node, Propagation, Records, Refusal, Relation, Stop, canonical, format,
-};
+use eml::{Constraint, Interval, Node, Propagation, Records};
+use eml::{Refusal, Relation, Stop, canonical, format};
 use std::fmt::Debug;
 
 const HEADER: &str = include_str!("../../c/eml.h");
