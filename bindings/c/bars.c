@@ -49,7 +49,7 @@ int main(void) {
     const size_t length = EML_NODE_BYTES * count;
     eml_solution solution;
     taken(eml_solve_to(nodes, length, constraints, sizeof constraints, lo, 5, hi, 5, 10000, 1e-8, &solution));
-    if (solution.stop != EML_STOP_ASSIGNMENT) {
+    if (solution.stop != EML_ASSIGNMENT) {
         printf("%s\n", eml_stop_word(solution.stop));
         return 1;
     }

@@ -1,5 +1,5 @@
 /*
- * The calls of the proved stretch solver (target/staticlib/libeml.a, which `rt staticlib eml` writes).
+ * The calls of the proved stretch solver (target/staticlib/libeml.a, which `tools/library` writes).
  *
  * Every answer is fixed to the bit by document 01, and the code behind each call is proved to give it. Nothing is allocated,
  * nothing is kept between calls, and any thread may call.
@@ -289,22 +289,16 @@ uint8_t eml_ge(uint8_t *nodes, size_t nodes_length, size_t count, size_t x, size
 /* ---- solving */
 
 /* What `stop` is after a call that solves. A conflict is no proof that there is no point: narrowing does not round outward. */
-enum {
-    EML_STOP_ASSIGNMENT = 0,
-    EML_STOP_CONFLICT = 1,
-    EML_STOP_TOLERANCE = 2,
-    EML_STOP_LIMIT = 3,
-    EML_STOP_UNSATISFIED = 4
-};
+enum { EML_ASSIGNMENT = 0, EML_CONFLICT = 1, EML_TOLERANCE = 2, EML_LIMIT = 3, EML_UNSATISFIED = 4 };
 
 /* Document 01's stop word. */
 static inline const char *eml_stop_word(uint8_t stop) {
     switch (stop) {
-    case EML_STOP_ASSIGNMENT: return "assignment";
-    case EML_STOP_CONFLICT: return "conflict";
-    case EML_STOP_TOLERANCE: return "tolerance";
-    case EML_STOP_LIMIT: return "limit";
-    case EML_STOP_UNSATISFIED: return "unsatisfied";
+    case EML_ASSIGNMENT: return "assignment";
+    case EML_CONFLICT: return "conflict";
+    case EML_TOLERANCE: return "tolerance";
+    case EML_LIMIT: return "limit";
+    case EML_UNSATISFIED: return "unsatisfied";
     default: return "no stop word of document 01";
     }
 }
@@ -359,16 +353,11 @@ static inline uint8_t eml_solve_to(const uint8_t *nodes, size_t nodes_length, co
 
 /* ---- decisions */
 
-/* What `verdict` is after a decision. */
-enum {
-    EML_VERDICT_TRUE = 0, /* propagation of the negation met a conflict, no more */
-    EML_VERDICT_TRUE_WITH_WITNESS = 1,
-    EML_VERDICT_FALSE_WITH_COUNTEREXAMPLE = 2,
-    EML_VERDICT_UNKNOWN = 3
-};
+/* What `verdict` is after a decision. EML_TRUE means that propagation of the negation met a conflict, no more. */
+enum { EML_TRUE = 0, EML_TRUE_WITH_WITNESS = 1, EML_FALSE_WITH_COUNTEREXAMPLE = 2, EML_UNKNOWN = 3 };
 
 /*
- * Whether the constraint holds for every value of variable `var` in [lo, hi]: EML_VERDICT_TRUE where propagation of its negation
+ * Whether the constraint holds for every value of variable `var` in [lo, hi]: EML_TRUE where propagation of its negation
  * meets a conflict, which is no proof; else by five samples, which have the other variables of `num_vars` at 0, in order: lo, hi,
  * the middle, and a tenth from either end. The counterexample is in the first `count` places of `point`. Refused with 9 for over
  * 16 variables or an unsound range, and with 10 where `point` has fewer than `num_vars` places.

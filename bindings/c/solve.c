@@ -36,7 +36,7 @@ int main(int argc, char **argv) {
         printf("refused %u\n", (unsigned)refusal);
     } else {
         printf("%s\n", eml_stop_word(solution.stop));
-        if (solution.stop == EML_STOP_ASSIGNMENT) {
+        if (solution.stop == EML_ASSIGNMENT) {
             printf("exact %d\n", solution.exact);
         } else {
             printf("best %016" PRIX64 "\n", eml_bits_of(solution.residual));

@@ -1,4 +1,4 @@
-//! Links the static library of the proved code, which `rt staticlib eml` writes. It is looked for in the folder that the
+//! Links the static library of the proved code, which `tools/library` writes. It is looked for in the folder that the
 //! environment variable EML_LIB_DIR names, else in the repository that has this package.
 
 use std::path::PathBuf;
@@ -14,7 +14,7 @@ fn main() {
     println!("cargo:rerun-if-changed={}", archive.display());
     if !archive.is_file() {
         eprintln!("{} is missing.", archive.display());
-        eprintln!("Run `rt staticlib eml` at the root of the repository,");
+        eprintln!("Run `tools/library` at the root of the repository,");
         eprintln!("or name the folder that has libeml.a in EML_LIB_DIR.");
         std::process::exit(1);
     }

@@ -20,7 +20,7 @@ fn output_of(mut program: Command, file: &[u8]) -> String {
         .stdin(Stdio::piped())
         .stdout(Stdio::piped())
         .spawn()
-        .expect("built by rt check eml_solve");
+        .expect("built by tools/program");
     // A file that is too long is not read to its end, so the pipe may close early.
     let _ = program.stdin.take().expect("piped").write_all(file);
     let output = program.wait_with_output().expect("ends");

@@ -25,11 +25,11 @@ fn main() -> Result<ExitCode, Refusal> {
     page.and(2)?;
 
     // The line and the least of it are ranges too: a constant there often ends in a false conflict.
-    for range in [(1.5, 2.5), (2.0, 3.0), (1.5, 3.0)] {
-        page.bound(range)?;
+    for (lo, hi) in [(1.5, 2.5), (2.0, 3.0), (1.5, 3.0)] {
+        page.bound(lo, hi)?;
     }
-    page.bound((39.75, 40.0))?;
-    page.bound((39.0, 39.25))?;
+    page.bound(39.75, 40.0)?;
+    page.bound(39.0, 39.25)?;
 
     let solution = page.records()?.solve(page.bounds(), 10_000, 1e-8)?;
     let Some(point) = solution.assignment() else {

@@ -2,8 +2,8 @@
 
 use crate::format::{CONSTRAINT_BYTES, MOST_CONSTRAINTS, MOST_NODES, MOST_VALUES, NODE_BYTES};
 use crate::{
-    Bounds, Constraint, ConstraintRecord, Interval, IntervalDomain, List, Node, Records, Refusal,
-    Relation, calls, canonical,
+    Bounds, Constraint, Interval, IntervalDomain, List, Node, Record, Records, Refusal, Relation,
+    calls, canonical,
 };
 use core::mem;
 
@@ -80,7 +80,7 @@ impl<const SIZE: usize, const MOST: usize> Lent<'_, SIZE, MOST> {
 /// let mut builder = Builder::new(&mut nodes, &mut constraints);
 /// let (x, one) = (builder.var(0)?, builder.one()?);
 /// builder.lt(x, one)?;
-/// builder.bound((0.5, 4.5))?;
+/// builder.bound(0.5, 4.5)?;
 /// let solution = builder.records()?.solve(builder.bounds(), 10_000, 1e-8)?;
 /// assert!(solution.assignment().is_some_and(|point| point[0] < 1.0));
 /// # Ok::<(), eml::Refusal>(())
@@ -128,7 +128,7 @@ impl<'a> Builder<'a> {
     }
 
     /// Appends a constraint's record, unless the library refuses the constraint that it ends.
-    fn record(&mut self, record: ConstraintRecord) -> Result<(), Refusal> {
+    fn record(&mut self, record: Record) -> Result<(), Refusal> {
         let nodes = self.nodes.used();
         self.constraints.append(record, |list| {
             let constraints = last_finished(list);
@@ -456,25 +456,25 @@ impl<'a> Builder<'a> {
         self.record(Constraint::Exists { var, range }.to_bytes())
     }
 
-    /// `range` is the bound of the next variable: the first is variable 0's. A variable without one has [-10,10].
+    /// The bound of the next variable: the first is variable 0's. A variable without one has [-10,10].
     ///
     /// ```
     /// # let (mut nodes, mut constraints) = ([0; 16 * 32], [0; 24 * 8]);
     /// # let mut builder = eml::Builder::new(&mut nodes, &mut constraints);
-    /// builder.bound((1.0, 3.0))?;
-    /// builder.bound((0.0, 0.5))?;
+    /// builder.bound(1.0, 3.0)?;
+    /// builder.bound(0.0, 0.5)?;
     /// assert_eq!(builder.bounds()[1], eml::Interval::new(0.0, 0.5));
-    /// assert_eq!(builder.bound((3.0, 1.0)), Err(eml::Refusal::Boxes));
+    /// assert_eq!(builder.bound(3.0, 1.0), Err(eml::Refusal::Boxes));
     /// # Ok::<(), eml::Refusal>(())
     /// ```
     ///
     /// # Errors
     ///
-    /// 9 for an unsound range, or where there are 16 bounds.
-    pub fn bound(&mut self, range: impl Into<Interval>) -> Result<(), Refusal> {
-        let range = range.into();
-        IntervalDomain::new(&[range], 1)?;
-        self.bounds.push(range).ok_or(Refusal::Boxes)
+    /// 9 for unsound ends, or where there are 16 bounds.
+    pub fn bound(&mut self, lo: f64, hi: f64) -> Result<(), Refusal> {
+        let bound = Interval { lo, hi };
+        IntervalDomain::new(&[bound], 1)?;
+        self.bounds.push(bound).ok_or(Refusal::Boxes)
     }
 
     /// The nodes and constraints, tested.

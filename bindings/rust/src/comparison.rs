@@ -4,17 +4,12 @@ use crate::format::CONSTRAINT_BYTES;
 use crate::{Refusal, calls};
 
 /// The bytes of a constraint's record.
-pub type ConstraintRecord = [u8; CONSTRAINT_BYTES];
+pub type Record = [u8; CONSTRAINT_BYTES];
 
 macro_rules! comparison {
     ($(#[$doc:meta])* $name:ident) => {
         $(#[$doc])*
-        pub fn $name(
-            nodes: &mut [u8],
-            count: usize,
-            x: usize,
-            y: usize,
-        ) -> Result<ConstraintRecord, Refusal> {
+        pub fn $name(nodes: &mut [u8], count: usize, x: usize, y: usize) -> Result<Record, Refusal> {
             let mut record = [0; CONSTRAINT_BYTES];
             calls::$name(nodes, count, x, y, &mut record)?;
             Ok(record)

@@ -25,7 +25,7 @@ mod solution;
 
 pub use answer::{Decision, DecisionError, Evaluation, Propagation};
 pub use builder::{Builder, NodeId};
-pub use comparison::{ConstraintRecord, ge, gt, le, lt};
+pub use comparison::{Record, ge, gt, le, lt};
 pub use constraint::{Constraint, Relation};
 pub use domain::IntervalDomain;
 pub use interval::Interval;

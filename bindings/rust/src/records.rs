@@ -144,7 +144,7 @@ impl<'a> Records<'a> {
     /// let mut builder = Builder::new(&mut nodes, &mut constraints);
     /// let (x, quarter) = (builder.var(0)?, builder.constant(0.25)?);
     /// builder.gt(x, quarter)?;
-    /// builder.bound((0.5, 3.5))?;
+    /// builder.bound(0.5, 3.5)?;
     /// let (records, bounds) = (builder.records()?, builder.bounds());
     /// assert_eq!(records.solve(bounds, 10_000, 1e-8)?.stop, Stop::Conflict);
     /// let found = records.check_midpoint(bounds)?.expect("2 is above 0.25");
@@ -184,8 +184,8 @@ impl<'a> Records<'a> {
         Ok(out)
     }
 
-    /// The normal form: the same nodes, and a constraint that has no Not. Its records are written to the front of `out`; 24 bytes
-    /// for each record of this constraint are room enough.
+    /// Writes the records of the normal form, 24 bytes each, to the front of `out`: their number. The normal form has the same nodes,
+    /// and its constraint has no Not; 24 bytes for each record of this constraint are room enough.
     ///
     /// Narrowing goes by what is inside a Not, so a constraint that has one is best solved in its normal form. The check differs
     /// in its slack, and where a value is an error: [`check`](Self::check) what is found on the constraint itself.
@@ -198,7 +198,8 @@ impl<'a> Records<'a> {
     /// let constraints = [above, Constraint::Not].map(Constraint::to_bytes).concat();
     /// let records = Records { nodes: &Node::Var(0).to_bytes(), constraints: &constraints };
     /// let mut out = [0; 24 * 2];
-    /// let normal = records.to_nnf(&mut out)?;
+    /// let written = records.to_nnf(&mut out)?;
+    /// let normal = Records { constraints: &out[..24 * written], ..records };
     /// let at_most = Constraint::Atom { relation: Relation::LeZero, node: 0 };
     /// assert!(normal.read_constraints()?.eq([at_most]));
     /// # Ok::<(), eml::Refusal>(())
@@ -207,13 +208,10 @@ impl<'a> Records<'a> {
     /// # Errors
     ///
     /// 2 to 7; then 10 where they do not fit.
-    pub fn to_nnf(&self, out: &'a mut [u8]) -> Result<Self, Refusal> {
+    pub fn to_nnf(&self, out: &mut [u8]) -> Result<usize, Refusal> {
         let mut written = 0;
         calls::to_nnf(*self, out, &mut written)?;
-        Ok(Self {
-            nodes: self.nodes,
-            constraints: &out[..CONSTRAINT_BYTES * written],
-        })
+        Ok(written)
     }
 
     /// Narrows the caller's own list of intervals, one for each variable; one beyond the list is [-10,10].

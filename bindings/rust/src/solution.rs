@@ -27,14 +27,14 @@ pub enum Stop {
     /// let mut builder = Builder::new(&mut nodes, &mut constraints);
     /// let (x, quarter) = (builder.var(0)?, builder.constant(0.25)?);
     /// builder.gt(x, quarter)?;
-    /// builder.bound((0.125, 0.3125))?;
+    /// builder.bound(0.125, 0.3125)?;
     /// let (records, bounds) = (builder.records()?, builder.bounds());
     /// assert_eq!(records.solve(bounds, 10_000, 1e-8)?.stop, Stop::Conflict);
     /// assert_eq!(records.check_midpoint(bounds)?, None);
     ///
     /// // Again, with variable 1, which the constraint does not name.
     /// builder.exists(1, (0.0, 0.0))?;
-    /// builder.bound((0.0, 0.0))?;
+    /// builder.bound(0.0, 0.0)?;
     /// let again = builder.records()?.solve(builder.bounds(), 10_000, 1e-8)?;
     /// assert_eq!(again.assignment(), Some(&[0.265625, 0.0][..]));
     /// # Ok::<(), eml::Refusal>(())

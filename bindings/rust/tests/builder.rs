@@ -160,9 +160,9 @@ fn limits() -> Result<(), Refusal> {
     assert_eq!(builder.one(), Err(Refusal::TooShort));
     assert_eq!(builder.sub(one, one), Err(Refusal::TooShort));
     for _ in 0..MOST_VALUES {
-        builder.bound((0.0, 1.0))?;
+        builder.bound(0.0, 1.0)?;
     }
-    assert_eq!(builder.bound((0.0, 1.0)), Err(Refusal::Boxes));
+    assert_eq!(builder.bound(0.0, 1.0), Err(Refusal::Boxes));
     assert_eq!(builder.bounds().len(), MOST_VALUES);
     assert_eq!(builder.records().unwrap_err(), Refusal::Nesting);
     Ok(())
@@ -180,7 +180,7 @@ fn an_example_again() -> Result<(), Refusal> {
     builder.atom(Relation::EqZero, difference)?;
     builder.forall(2, (-1.0, 1.0))?;
     for bound in problem.bounds() {
-        builder.bound(bound)?;
+        builder.bound(bound.lo, bound.hi)?;
     }
     let (ours, theirs) = (builder.records()?, problem.records());
     assert_eq!(ours.nodes, theirs.nodes);

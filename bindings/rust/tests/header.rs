@@ -1,15 +1,26 @@
 //! That eml.h has the package's version, numbers and words.
 
 use eml::calls::{self, DecidePlaces, EvalPlaces};
-use eml::{
-    Constraint, Interval, Node, Propagation, Records, Refusal, Relation, Stop, canonical, format,
-};
+use eml::{Constraint, Interval, Node, Propagation, Records};
+use eml::{Refusal, Relation, Stop, canonical, format};
 use std::fmt::Debug;
 
 const HEADER: &str = include_str!("../../c/eml.h");
 
 fn has(line: &str) {
     assert!(HEADER.contains(line), "eml.h has no {line}");
+}
+
+/// A name of the package as C writes it: `EqZero` as `EQ_ZERO`.
+fn in_c(name: &str) -> String {
+    let mut out = String::new();
+    for letter in name.chars() {
+        if letter.is_uppercase() && !out.is_empty() {
+            out.push('_');
+        }
+        out.extend(letter.to_uppercase());
+    }
+    out
 }
 
 /// That a name has a number in one of the header's enumerations.
@@ -22,18 +33,10 @@ fn has_number(name: &str, number: u8) {
     assert!(found, "eml.h has no {line}");
 }
 
-/// The name of a value's variant as C writes it: `EqZero` as `EQ_ZERO`.
-fn in_c(value: &impl Debug) -> String {
+/// The name of a value's variant as C writes it.
+fn variant_in_c(value: &impl Debug) -> String {
     let text = format!("{value:?}");
-    let name = text.split(['(', ' ']).next().expect("a name");
-    let mut out = String::new();
-    for letter in name.chars() {
-        if letter.is_uppercase() && !out.is_empty() {
-            out.push('_');
-        }
-        out.extend(letter.to_uppercase());
-    }
-    out
+    in_c(text.split(['(', ' ']).next().expect("a name"))
 }
 
 #[test]
@@ -69,6 +72,60 @@ fn the_numbers_of_the_format() {
 }
 
 #[test]
+fn the_kinds_the_refusals_and_the_stops() {
+    let mut seen = 0;
+    for number in 0..=u8::MAX {
+        if let Ok(relation) = Relation::try_from(number) {
+            let name = in_c(&format!("{relation:?}"));
+            has(&format!("EML_KIND_{name} = {number},"));
+            seen += 1;
+        }
+        if let Ok(refusal) = Refusal::try_from(number) {
+            let name = in_c(&format!("{refusal:?}"));
+            has(&format!("EML_REFUSED_{name} = {number}"));
+            let text = refusal.text();
+            has(&format!("case EML_REFUSED_{name}: return \"{text}\";\n"));
+            seen += 1;
+        }
+        if let Ok(stop) = Stop::try_from(number) {
+            let name = in_c(&format!("{stop:?}"));
+            has(&format!("EML_{name} = {number}"));
+            has(&format!("case EML_{name}: return \"{stop}\";\n"));
+            seen += 1;
+        }
+    }
+    assert_eq!(seen, 6 + 10 + 5);
+}
+
+/// As the test above, with what follows the number: 1 is not 10.
+#[test]
+fn the_whole_numbers() {
+    for number in 0..=u8::MAX {
+        if let Ok(relation) = Relation::try_from(number) {
+            has_number(&format!("KIND_{}", variant_in_c(&relation)), number);
+        }
+        if let Ok(refusal) = Refusal::try_from(number) {
+            has_number(&format!("REFUSED_{}", variant_in_c(&refusal)), number);
+        }
+        if let Ok(stop) = Stop::try_from(number) {
+            has_number(&variant_in_c(&stop), number);
+        }
+    }
+}
+
+#[test]
+fn the_propagations() {
+    let mut seen = 0;
+    for number in 0..=u8::MAX {
+        if let Ok(propagation) = Propagation::try_from(number) {
+            has_number(&format!("PROP_{}", variant_in_c(&propagation)), number);
+            seen += 1;
+        }
+    }
+    assert_eq!(seen, 3);
+}
+
+#[test]
 fn the_kinds_of_records() {
     let nodes = [
         Node::One,
@@ -77,7 +134,7 @@ fn the_kinds_of_records() {
         Node::Eml { left: 0, right: 0 },
     ];
     for node in nodes {
-        has_number(&format!("NODE_{}", in_c(&node)), node.to_bytes()[0]);
+        has_number(&format!("NODE_{}", variant_in_c(&node)), node.to_bytes()[0]);
     }
     let (var, range) = (0, Interval::new(0.0, 0.0));
     for (name, constraint) in [
@@ -89,34 +146,6 @@ fn the_kinds_of_records() {
     ] {
         has_number(&format!("KIND_{name}"), constraint.to_bytes()[0]);
     }
-}
-
-#[test]
-fn the_relations_the_refusals_the_stops_and_the_propagations() {
-    let mut seen = 0;
-    for number in 0..=u8::MAX {
-        if let Ok(relation) = Relation::try_from(number) {
-            has_number(&format!("KIND_{}", in_c(&relation)), number);
-            seen += 1;
-        }
-        if let Ok(refusal) = Refusal::try_from(number) {
-            let (name, text) = (format!("REFUSED_{}", in_c(&refusal)), refusal.text());
-            has_number(&name, number);
-            has(&format!("case EML_{name}: return \"{text}\";\n"));
-            seen += 1;
-        }
-        if let Ok(stop) = Stop::try_from(number) {
-            let name = format!("STOP_{}", in_c(&stop));
-            has_number(&name, number);
-            has(&format!("case EML_{name}: return \"{stop}\";\n"));
-            seen += 1;
-        }
-        if let Ok(propagation) = Propagation::try_from(number) {
-            has_number(&format!("PROP_{}", in_c(&propagation)), number);
-            seen += 1;
-        }
-    }
-    assert_eq!(seen, 6 + 10 + 5 + 3);
 }
 
 /// The number that the library writes beside the package's name for it. No call answers ExpOverflow.
@@ -134,7 +163,7 @@ fn the_evaluations() {
         calls::eval_real(&nodes, node, point, &mut to).expect("sound");
         assert_eq!(to.kind, number);
         let evaluation = records.eval_real(node, point).expect("sound");
-        has_number(&format!("EVAL_{}", in_c(&evaluation)), number);
+        has_number(&format!("EVAL_{}", variant_in_c(&evaluation)), number);
     }
 }
 
@@ -166,9 +195,6 @@ fn the_verdicts() {
             records.decide_exists(0, range)
         };
         assert_eq!(to.verdict, number);
-        has_number(
-            &format!("VERDICT_{}", in_c(&decision.expect("sound"))),
-            number,
-        );
+        has_number(&variant_in_c(&decision.expect("sound")), number);
     }
 }

@@ -163,12 +163,11 @@ fn normal_form() {
         constraints: &constraints,
     };
     let mut out = [0xAA; 30];
-    let normal = records.to_nnf(&mut out).expect("taken");
-    assert_eq!(normal.nodes, records.nodes);
-    assert_eq!(normal.constraints, atom(Relation::LeZero).to_bytes());
+    assert_eq!(records.to_nnf(&mut out), Ok(1));
+    assert_eq!(out[..24], atom(Relation::LeZero).to_bytes());
     assert_eq!(out[24..], [0xAA; 6]);
     let mut short = [0xAA; 23];
-    assert_eq!(records.to_nnf(&mut short).unwrap_err(), Refusal::TooShort);
+    assert_eq!(records.to_nnf(&mut short), Err(Refusal::TooShort));
     assert_eq!(short, [0xAA; 23]);
 }
 
@@ -198,7 +197,7 @@ fn building() {
         (lt, Relation::LtZero),
         (le, Relation::LeZero),
     ] {
-        let record: eml::ConstraintRecord = call(&mut nodes, 2, 0, 1).expect("taken");
+        let record: eml::Record = call(&mut nodes, 2, 0, 1).expect("taken");
         assert_eq!(record, Constraint::Atom { relation, node: 8 }.to_bytes());
     }
 }

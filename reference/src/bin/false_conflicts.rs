@@ -121,9 +121,9 @@ fn stop_again(constraint: &EmlConstraint, bound: (f64, f64)) -> Stop {
 struct Counts {
     conflicts: u32,
     midpoint: u32,
-    assignment: u32,
-    tolerance: u32,
+    again: u32,
     variable: u32,
+    tolerance: u32,
 }
 
 impl Counts {
@@ -163,7 +163,7 @@ impl Counts {
             self.conflicts += 1;
             self.midpoint += u32::from(passes(middle(some)));
             match stop_again(&constraint, some) {
-                Stop::Assignment => self.assignment += 1,
+                Stop::Assignment => self.again += 1,
                 Stop::Tolerance => self.tolerance += 1,
                 stop => panic!("the table has no column for {stop}"),
             }
@@ -173,7 +173,7 @@ impl Counts {
 
 fn main() {
     println!(
-        "| constraint | false conflicts | the midpoint passes | solving again: assignment | solving again: tolerance | false conflicts with c as a variable |"
+        "| constraint | false conflicts | the midpoint passes | solving again finds a point | with c as a variable | solving again ends in tolerance |"
     );
     println!("|---|---|---|---|---|---|");
     let mut rng = SplitMix64::new(113);
@@ -186,12 +186,12 @@ fn main() {
             let Counts {
                 conflicts,
                 midpoint,
-                assignment,
-                tolerance,
+                again,
                 variable,
+                tolerance,
             } = counts;
             println!(
-                "| {} | {conflicts} | {midpoint} | {assignment} | {tolerance} | {variable} |",
+                "| {} | {conflicts} | {midpoint} | {again} | {variable} | {tolerance} |",
                 form.0
             );
         }

@@ -1,0 +1,286 @@
+/*
+ * Every call of eml.h, with what it answers: a prototype that is not the library's would answer otherwise. The argument is
+ * examples/false_conflict.emlq.
+ */
+#include "eml.h"
+
+#include <float.h>
+#include <stdio.h>
+#include <string.h>
+
+static int failures;
+
+static void holds(bool condition, const char *text, int line) {
+    if (!condition) {
+        printf("line %d does not hold: %s\n", line, text);
+        failures++;
+    }
+}
+
+#define HOLDS(condition) holds(condition, #condition, __LINE__)
+
+/* Whether two numbers are equal but for the last bits. */
+static bool near(double a, double b) {
+    return eml_abs(a - b) < 1e-14;
+}
+
+/* Variable 0 is above 0.25, in [0.5,3.5]: a false conflict, and what a second look at it tells. */
+static void files(const char *path) {
+    static uint8_t file[EML_LONGEST_FILE];
+    FILE *stream = fopen(path, "rb");
+    if (stream == NULL) {
+        perror(path);
+        failures++;
+        return;
+    }
+    const size_t length = fread(file, 1, sizeof file, stream);
+    fclose(stream);
+    HOLDS(eml_read(file, length) == 0);
+    uint64_t vars = 0;
+    HOLDS(eml_num_vars(file, length, &vars) == 0 && vars == 1);
+    eml_solution solution;
+    HOLDS(eml_solve_file_to(file, length, 10000, 1e-8, &solution) == 0 && solution.stop == EML_CONFLICT);
+    HOLDS(!solution.exact && solution.residual > DBL_MAX && solution.halvings == 0 && solution.count == 0);
+
+    eml_parts parts;
+    HOLDS(eml_file_parts(file, EML_HEADER_BYTES - 1, &parts) == EML_REFUSED_HEADER);
+    HOLDS(eml_file_parts(file, length, &parts) == 0);
+    HOLDS(parts.nodes == file + EML_HEADER_BYTES && parts.nodes_length == (2 + EML_SUB_NODES) * EML_NODE_BYTES);
+    HOLDS(parts.constraints == parts.nodes + parts.nodes_length && parts.constraints_length == EML_CONSTRAINT_BYTES);
+    HOLDS(parts.bounds == 1 && parts.lo[0] == 0.5 && parts.hi[0] == 3.5);
+    double lo[1], hi[1];
+    HOLDS(eml_domain_new(parts.lo, parts.bounds, parts.hi, parts.bounds, 1, lo, 1, hi, 1) == 0);
+    const double middle[] = {eml_interval_midpoint(lo[0], hi[0])};
+    bool passes = false;
+    HOLDS(eml_check(parts.nodes, parts.nodes_length, parts.constraints, parts.constraints_length, middle, 1, &passes) == 0);
+    HOLDS(passes && middle[0] == 2.0);
+}
+
+/* Variable 1 is at least 0; node 2 is e - ln of it. */
+static uint8_t nodes[3 * EML_NODE_BYTES], constraints[2 * EML_CONSTRAINT_BYTES];
+#define RECORDS nodes, sizeof nodes, constraints, EML_CONSTRAINT_BYTES
+
+static void write_records(void) {
+    eml_write_var(nodes, 0, 1);
+    eml_write_one(nodes, 1);
+    eml_write_eml(nodes, 2, 1, 0);
+    eml_write_atom(constraints, 0, EML_KIND_GE_ZERO, 0);
+    eml_write_not(constraints, 1);
+}
+
+static void records(void) {
+    HOLDS(eml_read_records(RECORDS) == 0);
+    uint64_t vars = 0;
+    HOLDS(eml_num_vars_records(RECORDS, &vars) == 0 && vars == 2);
+    uint8_t quantified[2 * EML_CONSTRAINT_BYTES];
+    memcpy(quantified, constraints, EML_CONSTRAINT_BYTES);
+    eml_write_exists(quantified, 1, 15, 2.0, 2.0);
+    HOLDS(eml_num_vars_records(nodes, sizeof nodes, quantified, sizeof quantified, &vars) == 0 && vars == 16);
+}
+
+static void solving(void) {
+    const double lo[] = {-4.0, 1.0}, hi[] = {2.0, 3.0};
+    eml_solution solution;
+    HOLDS(eml_solve_to(RECORDS, lo, 2, hi, 2, 10000, 1e-8, &solution) == 0 && solution.stop == EML_ASSIGNMENT);
+    HOLDS(!solution.exact && solution.residual == 0.0 && solution.halvings == 0);
+    HOLDS(solution.count == 2 && solution.point[0] == -1.0 && solution.point[1] == 2.0);
+    HOLDS(eml_solve_to(RECORDS, hi, 2, hi, 2, 10000, 1e-8, &solution) == 0 && solution.exact);
+    HOLDS(eml_solve_to(RECORDS, NULL, 0, NULL, 0, 10000, 1e-8, &solution) == 0 && solution.point[1] == 5.0);
+    HOLDS(eml_solve_to(RECORDS, lo, 2, hi, 1, 10000, 1e-8, &solution) == EML_REFUSED_BOXES);
+    HOLDS(eml_solve_to(RECORDS, lo, 2, hi, 2, EML_MOST_LIMIT + 1, 1e-8, &solution) == EML_REFUSED_LIMIT_OR_TOLERANCE);
+}
+
+typedef uint8_t decision(const uint8_t *, size_t, const uint8_t *, size_t, size_t, double, double, size_t, uint8_t *, size_t *,
+                         double *, size_t);
+
+static const struct {
+    decision *call;
+    double lo, hi;
+    uint8_t verdict;
+    double value; /* of variable 1, in the point */
+} DECISIONS[] = {
+    {eml_decide_forall, 1.0, 2.0, EML_TRUE, 0.0},
+    {eml_decide_forall, -1.0, 2.0, EML_FALSE_WITH_COUNTEREXAMPLE, -1.0},
+    {eml_decide_exists, -1.0, 2.0, EML_TRUE_WITH_WITNESS, 0.5},
+    {eml_decide_exists, -2.0, -1.0, EML_UNKNOWN, 0.0},
+};
+
+static void deciding(void) {
+    for (size_t i = 0; i < sizeof DECISIONS / sizeof *DECISIONS; i++) {
+        uint8_t verdict = 0xAA;
+        size_t count = 0;
+        double point[] = {0.0, 0.0};
+        HOLDS(DECISIONS[i].call(RECORDS, 1, DECISIONS[i].lo, DECISIONS[i].hi, 2, &verdict, &count, point, 2) == 0);
+        HOLDS(verdict == DECISIONS[i].verdict && point[0] == 0.0 && point[1] == DECISIONS[i].value);
+        HOLDS(count == (DECISIONS[i].value == 0.0 ? 0u : 2u));
+    }
+}
+
+static void narrowing(void) {
+    double lo[] = {-2.0, -1.0}, hi[] = {3.0, 1.0};
+    uint8_t answer = 0xAA;
+    HOLDS(eml_propagate(RECORDS, lo, 2, hi, 2, &answer) == 0 && answer == EML_PROP_CHANGED);
+    HOLDS(lo[0] == -2.0 && hi[0] == 3.0 && lo[1] == 0.0 && hi[1] == 1.0);
+    eml_interval boxes[] = {{-2.0, 3.0}, {0.0, 1.0}};
+    HOLDS(eml_propagate_intervals(RECORDS, boxes, 2, &answer) == 0 && answer == EML_PROP_STABLE);
+    boxes[1].lo = -3.0;
+    boxes[1].hi = -1.0;
+    HOLDS(eml_propagate_intervals(RECORDS, boxes, 2, &answer) == 0 && answer == EML_PROP_CONFLICT);
+
+    double low[2], high[2];
+    HOLDS(eml_domain_new(lo, 1, hi, 1, 2, low, 2, high, 2) == 0);
+    HOLDS(low[0] == -2.0 && high[0] == 3.0 && low[1] == -10.0 && high[1] == 10.0);
+    bool empty = true;
+    HOLDS(eml_domain_is_empty(low, 2, high, 2, &empty) == 0 && !empty);
+    HOLDS(eml_domain_is_empty(high, 2, low, 2, &empty) == 0 && empty);
+
+    uint8_t normal[EML_CONSTRAINT_BYTES];
+    size_t written = 0;
+    HOLDS(eml_to_nnf(nodes, sizeof nodes, constraints, sizeof constraints, normal, sizeof normal, &written) == 0);
+    HOLDS(written == 1 && normal[0] == EML_KIND_LT_ZERO);
+}
+
+static void points(void) {
+    const double good[] = {0.0, 2.0}, bad[] = {0.0, -1.0};
+    const double not_a_number[] = {0.0, eml_of_bits(0x7FF8000000000000)};
+    uint8_t kind = 0xAA;
+    double value = 0.0;
+    size_t index = 9, count = 9;
+    HOLDS(eml_eval_real(nodes, sizeof nodes, 0, good, 2, &kind, &value, &index, &count) == 0);
+    HOLDS(kind == EML_EVAL_VALUE && value == 2.0 && index == 9 && count == 9);
+    HOLDS(eml_eval_real(nodes, sizeof nodes, 0, good, 0, &kind, &value, &index, &count) == 0);
+    HOLDS(kind == EML_EVAL_VAR_OUT_OF_BOUNDS && index == 1 && count == 0);
+    HOLDS(eml_eval_real(nodes, sizeof nodes, 0, not_a_number, 2, &kind, &value, &index, &count) == 0);
+    HOLDS(kind == EML_EVAL_NAN_ENCOUNTERED);
+    HOLDS(eml_eval_real(nodes, sizeof nodes, 2, bad, 2, &kind, &value, &index, &count) == 0);
+    HOLDS(kind == EML_EVAL_COMPLEX_RESULT && near(value, 3.141592653589793));
+
+    bool passes = false;
+    HOLDS(eml_check(RECORDS, good, 2, &passes) == 0 && passes);
+    HOLDS(eml_check(RECORDS, bad, 2, &passes) == 0 && !passes);
+    HOLDS(eml_residual(RECORDS, bad, 2, &value) == 0 && value == 1.0);
+}
+
+typedef uint8_t comparison(uint8_t *, size_t, size_t, size_t, size_t, uint8_t *, size_t);
+
+static const struct {
+    comparison *call;
+    uint8_t kind;
+} COMPARISONS[] = {
+    {eml_lt, EML_KIND_LT_ZERO},
+    {eml_le, EML_KIND_LE_ZERO},
+    {eml_gt, EML_KIND_GT_ZERO},
+    {eml_ge, EML_KIND_GE_ZERO},
+};
+
+/* The value of a node where variable 0 is 3. */
+static double value_at_3(const uint8_t *list, size_t length, size_t node) {
+    const double point[] = {3.0};
+    uint8_t kind = 0xAA;
+    double value = 0.0;
+    size_t index, count;
+    HOLDS(eml_eval_real(list, length, node, point, 1, &kind, &value, &index, &count) == 0 && kind == EML_EVAL_VALUE);
+    return value;
+}
+
+static void building(void) {
+    uint8_t list[(2 + EML_LN_NODES + EML_SUB_NODES) * EML_NODE_BYTES];
+    eml_write_var(list, 0, 0);
+    eml_write_const(list, 1, 2.0);
+    HOLDS(eml_canonical_ln(list, sizeof list, 2, 0) == 0);
+    HOLDS(near(value_at_3(list, (2 + EML_LN_NODES) * EML_NODE_BYTES, 5), 1.0986122886681098));
+    HOLDS(eml_canonical_sub(list, sizeof list, 6, 0, 1) == 0);
+    HOLDS(near(value_at_3(list, sizeof list, 12), 1.0));
+    for (size_t i = 0; i < sizeof COMPARISONS / sizeof *COMPARISONS; i++) {
+        uint8_t written[EML_CONSTRAINT_BYTES], atom[EML_CONSTRAINT_BYTES];
+        eml_write_atom(atom, 0, COMPARISONS[i].kind, 8);
+        HOLDS(COMPARISONS[i].call(list, sizeof list, 2, 0, 1, written, sizeof written) == 0);
+        HOLDS(memcmp(written, atom, sizeof atom) == 0);
+        HOLDS(near(value_at_3(list, (2 + EML_SUB_NODES) * EML_NODE_BYTES, 8), 1.0));
+    }
+}
+
+/* What functions of one number, of two, and of two to two answer, but for the last bits. */
+static const struct {
+    double (*call)(double);
+    double x, value;
+} OF_ONE[] = {
+    {eml_exp, 1.0, 2.718281828459045},
+    {eml_ln, 2.0, 0.6931471805599453},
+    {eml_sin, 0.5, 0.479425538604203},
+    {eml_cos, 0.5, 0.8775825618903728},
+    {eml_atan, 0.5, 0.4636476090008061},
+    {eml_abs, -2.0, 2.0},
+};
+
+static const struct {
+    double (*call)(double, double);
+    double x, y, value;
+} OF_TWO[] = {
+    {eml_max, 1.0, 2.0, 2.0},
+    {eml_min, 1.0, 2.0, 1.0},
+    {eml_interval_width, 1.0, 4.0, 3.0},
+    {eml_interval_midpoint, 1.0, 4.0, 2.5},
+};
+
+static const struct {
+    void (*call)(double, double, double *, double *);
+    double x, y, first, second;
+} TO_TWO[] = {
+    {eml_interval_new, 1.0, 2.0, 1.0, 2.0},
+    {eml_interval_exp, 0.0, 1.0, 1.0, 2.718281828459045},
+    {eml_interval_ln, 1.0, 2.0, 0.0, 0.6931471805599453},
+    {eml_interval_exp_inv, 1.0, 2.0, 0.0, 0.6931471805599453},
+    {eml_interval_ln_inv, 0.0, 1.0, 1.0, 2.718281828459045},
+    {eml_complex_exp, 0.0, 1.0, 0.5403023058681398, 0.8414709848078965},
+    {eml_complex_ln, 0.0, 2.0, 0.6931471805599453, 1.5707963267948966},
+};
+
+static void numbers(void) {
+    for (size_t i = 0; i < sizeof OF_ONE / sizeof *OF_ONE; i++) {
+        HOLDS(near(OF_ONE[i].call(OF_ONE[i].x), OF_ONE[i].value));
+    }
+    for (size_t i = 0; i < sizeof OF_TWO / sizeof *OF_TWO; i++) {
+        HOLDS(near(OF_TWO[i].call(OF_TWO[i].x, OF_TWO[i].y), OF_TWO[i].value));
+    }
+    for (size_t i = 0; i < sizeof TO_TWO / sizeof *TO_TWO; i++) {
+        double first = 9.0, second = 9.0;
+        TO_TWO[i].call(TO_TWO[i].x, TO_TWO[i].y, &first, &second);
+        HOLDS(near(first, TO_TWO[i].first) && near(second, TO_TWO[i].second));
+    }
+    HOLDS(eml_next_up(1.0) == 1.0 + DBL_EPSILON && eml_next_down(1.0) == 1.0 - DBL_EPSILON / 2.0);
+    HOLDS(eml_sign_bit(-0.0) && !eml_sign_bit(0.0));
+    HOLDS(eml_of_bits(0x4008000000000000) == 3.0 && eml_bits_of(3.0) == 0x4008000000000000);
+}
+
+static void intervals(void) {
+    double low = 9.0, middle = 9.0, high = 9.0;
+    eml_interval_point(3.0, &low, &high);
+    HOLDS(low == 3.0 && high == 3.0);
+    eml_interval_split(1.0, 4.0, &low, &middle, &high);
+    HOLDS(low == 1.0 && middle == 2.5 && high == 4.0);
+    eml_interval_intersect(1.0, 4.0, 2.0, 5.0, &low, &high);
+    HOLDS(low == 2.0 && high == 4.0);
+    eml_interval_hull(1.0, 2.0, 4.0, 5.0, &low, &high);
+    HOLDS(low == 1.0 && high == 5.0);
+    HOLDS(eml_interval_is_empty(2.0, 1.0) && !eml_interval_is_empty(1.0, 2.0));
+    HOLDS(eml_interval_contains(1.0, 4.0, 4.0) && !eml_interval_contains(1.0, 4.0, 5.0));
+}
+
+int main(int argc, char **argv) {
+    if (argc != 2) {
+        fprintf(stderr, "usage: %s FILE\n", argv[0]);
+        return 2;
+    }
+    files(argv[1]);
+    write_records();
+    records();
+    solving();
+    deciding();
+    narrowing();
+    points();
+    building();
+    numbers();
+    intervals();
+    return failures == 0 ? 0 : 1;
+}
