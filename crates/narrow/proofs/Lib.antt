@@ -6,3 +6,5 @@ mod Atoms
 mod Branches
 mod Passes
 mod Given
+pub mod Shrinking
+pub mod Promise

@@ -4,7 +4,5 @@ pub mod Modes
 pub mod Given
 pub mod GivenLaws
 pub mod Held
-pub mod Shrinking
-pub mod Promise
 pub mod Computing
 pub mod Examples

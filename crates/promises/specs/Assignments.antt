@@ -17,7 +17,7 @@ use Rattle.interval.specs.Inside.{Sound, Each, EachInside, Narrower, midpoint_in
 use Rattle.constraint.specs.Constraint.{Constraint, num_vars}
 use Rattle.narrow.specs.Narrowing.{propagate}
 use Rattle.narrow.specs.Held.{ConstraintHeld}
-use Rattle.narrow.specs.Promise.{propagate_narrows}
+use Rattle.narrow.proofs.Promise.{propagate_narrows}
 use Rattle.point.specs.Check.{check}
 use Rattle.nra.specs.Solver.{Problem, Answer, assignment, failed, State, Progress, Stopped, Going, begin_checked, begin_narrowed, begin_empty, begin_in, begin_at, begin, halved, settle_checked, settle_narrowed, settle_in, halve, steps, finish, run, untried, solve}
 

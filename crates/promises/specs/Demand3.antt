@@ -15,7 +15,7 @@ use Rattle.point.specs.Check.{check}
 use Rattle.narrow.specs.Narrowing.{propagate}
 use Rattle.narrow.specs.Given.{ends, answered, propagate_given}
 use Rattle.narrow.specs.Held.{ConstraintHeld}
-use Rattle.narrow.specs.Promise.{propagate_keeps}
+use Rattle.narrow.proofs.Promise.{propagate_keeps}
 use Rattle.lent.specs.Lent.{propagate_lent}
 use Rattle.nra.specs.declared.answer.Stop as Word
 use Rattle.nra.specs.Solver.{Problem, assignment, halvings_of, reached, solve}

@@ -7,7 +7,7 @@ use Rattle.interval.specs.Inside.{Proper, Sound, Each, EachInside, Narrower, eac
 use Rattle.constraint.specs.Constraint.{Constraint}
 use Rattle.narrow.specs.Narrowing.{rounds, propagate}
 use Rattle.narrow.specs.Held.{ConstraintHeld}
-use Rattle.narrow.specs.Shrinking.{rounds_leave}
+use Rattle.narrow.proofs.Shrinking.{rounds_leave}
 
 -- No lo is lowered, no hi is raised, no interval is emptied, whatever the answer.
 pub propagate_narrows : (σ : Settings) (c : Constraint) (b : List Interval) → ConstraintHeld c → Each Proper b → Narrower b (propagate σ c b).places
