@@ -1,4 +1,6 @@
 // Constraints (constraint.rs) as records in postorder (document 01, "The file"): their tests, the number of variables, and the comparisons.
+#![tactic(auto)]
+
 ghost use Rattle.std.specs.Prelude.{◌≡◌, ◌+◌, ◌*◌, ◌≤◌, ◌<◌, ◌++◌, [], ◌∷◌, length, get_or};
 ghost use Rattle.std.proofs.lemmas.List.Edits.{sets};
 ghost use Rattle.record.specs.Bytes.{u32_bytes, u64_bytes};

@@ -1,4 +1,6 @@
 // `decide_forall` and `decide_exists` (document 01, "The rest"; helpers.rs): propagation of the negation, and samples in order.
+#![tactic(auto)]
+
 ghost use Rattle.std.specs.Prelude.{◌≡◌, ◌+◌, ◌≤◌, [], length};
 ghost use Rattle.record.specs.Refusal.{◌or_else◌};
 ghost use Rattle.settings.specs.Settings.{usual};

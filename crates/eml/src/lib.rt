@@ -1,5 +1,7 @@
 // The calls of the static library, for C and Rust: plain numbers and slices only, and nothing asked of the caller. Each does what the
 // function behind it is proved to do. A call that can refuse returns document 01's number, or 0, and a refusal writes nothing.
+#![tactic(auto)]
+
 pub mod canonical;
 pub mod deciding;
 pub mod domains;

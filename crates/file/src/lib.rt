@@ -1,4 +1,6 @@
 // The house file (document 01, "The file"): its tests, and what an accepted file says.
+#![tactic(auto)]
+
 ghost use Rattle.std.specs.Prelude.{◌≡◌, ◌+◌, ◌*◌, ◌/◌, ◌≤◌, length};
 ghost use Rattle.record.specs.Refusal.{first};
 ghost use Rattle.interval.specs.Boxes.{boxes_of};

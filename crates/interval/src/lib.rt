@@ -1,4 +1,6 @@
 // Intervals of two f64 (document 01, "Narrowing"), with the methods of interval.rs. They take any f64 and refuse nothing.
+#![tactic(auto)]
+
 ghost use Rattle.std.specs.Prelude.{◌≡◌, ◌<◌, ◌≤◌, ◌&&◌, leb, length, get_or};
 ghost use Rattle.std.specs.Float.Ieee.Scale.{finite};
 ghost use Rattle.interval.specs.Interval.{◌‥◌, is_empty, width, midpoint, contains, split, intersect, hull, exp, has_ln, ln, plus, minus, moves};

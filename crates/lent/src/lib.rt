@@ -1,5 +1,7 @@
 // `propagate` on the caller's own list of intervals (document 01, "Forms of the Rust to recast"). The list is copied to boxes by value,
 // narrowed there by `narrow::narrow_boxes`, and copied back.
+#![tactic(auto)]
+
 ghost use Rattle.std.specs.Prelude.{◌≡◌, get_or};
 ghost use Rattle.settings.specs.Settings.{usual};
 ghost use Rattle.interval.specs.Boxes.{intervals};

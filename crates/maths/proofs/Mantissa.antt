@@ -10,7 +10,7 @@ use lib.Dec.{T, lit<, lit≤, ltb, leb, eqb, ltb→lt, nltb→le, eqb→eq}
 use lib.Pow.{pow_pos, pow-add, pow_mono}
 use lib.Count.{count_leading_zeros, leading_top}
 use borrow.Author.Tests.{lt-ltb, le-ltb, le-leb, lt-leb}
-use lib.Ieee.{Float, nan, inf, fin, binary64, up, down, minus, size, of_bits, to_bits, fits, lt}
+use lib.Ieee.{Float, nan, inf, fin, binary64, up, down, minus, size, of_bits, to_bits, fits}
 use lib.Ieee.Fits.{and_l}
 use lib.Ieee.Positive.{positive}
 use Rattle.number.specs.Round.{fits_parts, exponent_at}

@@ -1,5 +1,7 @@
 // The stand-ins for library mathematics of document 01: exp, ln, sine, cosine, arctangent, and complex exp and ln. Each operation is
 // rounded once, in the order that the document shows.
+#![tactic(auto)]
+
 ghost use Rattle.std.specs.Prelude.{◌≡◌, ◌+◌, ◌<◌, ◌≤◌, ◌^◌, T};
 ghost use Rattle.std.specs.Int.Signed.{mag};
 ghost use Rattle.std.specs.Float.{binary64};

@@ -5,7 +5,7 @@ use Rattle.settings.specs.declared.Settings.{Settings}
 use Rattle.interval.specs.declared.Interval.{Interval}
 use Rattle.interval.specs.Inside.{Proper, Sound, Each, EachInside, Narrower, each_proper, each_sound}
 use Rattle.constraint.specs.Constraint.{Constraint}
-use Rattle.narrow.specs.Narrowing.{rounds, propagate}
+use Rattle.narrow.specs.Narrowing.{propagate}
 use Rattle.narrow.specs.Held.{ConstraintHeld}
 use Rattle.narrow.proofs.Shrinking.{rounds_leave}
 

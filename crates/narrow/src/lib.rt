@@ -1,5 +1,7 @@
 // Narrowing (document 01; interval.rs): a constraint tightens the boxes of its variables, or finds that nothing in them meets it. The
 // boxes are two lent lists of ends.
+#![tactic(auto)]
+
 ghost use Rattle.std.specs.Prelude.{◌≡◌, ◌+◌, ◌≤◌, length};
 ghost use Rattle.interval.specs.Interval as Intervals;
 ghost use Rattle.interval.specs.Boxes.{intervals, boxes_of};

@@ -1,5 +1,7 @@
 // The normal form of a constraint (document 01, "Narrowing"; constraint.rs): Not is pushed down to the atoms, and records are written in
 // postorder.
+#![tactic(auto)]
+
 ghost use Rattle.std.specs.Prelude.{◌≡◌, ◌+◌, ◌*◌, ◌≤◌, length};
 ghost use Rattle.record.specs.Leaving.{◌leaving◌};
 ghost use Rattle.constraint.specs.Code.{Puts};

@@ -1,4 +1,6 @@
 // Halving (document 01; nra.rs): boxes are narrowed and halved until a point passes the check.
+#![tactic(auto)]
+
 pub mod answer;
 pub mod halving;
 pub mod run;

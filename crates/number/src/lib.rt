@@ -1,5 +1,7 @@
 // The f64 operations of document 01 that are not the machine's own: maximum and minimum, magnitude and sign, bit patterns,
 // neighbours, the nearest whole number; and the test of a sound range.
+#![tactic(auto)]
+
 ghost use Rattle.std.specs.Prelude.{◌≡◌, ◌^◌, T, from_bits, to_bits};
 ghost use Rattle.std.specs.Float.{binary64};
 ghost use Rattle.number.specs.Sign.{abs_of, sign_bit};

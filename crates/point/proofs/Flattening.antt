@@ -16,7 +16,6 @@ use Rattle.tree.specs.Tree.{Tree, size}
 use Rattle.tree.specs.Nodes.{node_at, tree_at, Valid}
 use Rattle.tree.specs.NodeLaws.{tree_one, tree_const, tree_var, tree_eml, children_below, in_bytes, prefix}
 use Rattle.point.specs.declared.eval.Instruction.{Instruction}
-use Rattle.point.specs.declared.eval.Instruction.TheVariants as Instruction
 use Rattle.point.specs.Machine.{instruction_of, instructions, Numbers, Flattened, postorder}
 
 module _ (b order : List ℕ) (at x : ℕ) (h : at < length order) where

@@ -1,4 +1,6 @@
 // Testing a point (document 01): a tree's value, the check and the residual of a constraint, on records given without a file.
+#![tactic(auto)]
+
 pub mod eval; // eval.rs: a tree's value
 pub mod helpers; // helpers.rs: the check and the residual
 

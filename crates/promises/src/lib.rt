@@ -1,1 +1,3 @@
+#![tactic(auto)]
+
 // The customer's promises, as theorems: see specs/. There is no code here.

@@ -1,4 +1,6 @@
 // The numbers of document 01 that a caller may want to tune, in one record that every function using them receives.
+#![tactic(auto)]
+
 ghost use Rattle.std.specs.Prelude.{◌≡◌};
 ghost use Rattle.settings.specs.Settings as Document;
 

@@ -2,4 +2,3 @@ pub mod Floats
 pub mod Nodes
 pub mod Append
 pub mod Tests
-pub mod Cycle

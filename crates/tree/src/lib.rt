@@ -1,4 +1,6 @@
 // Numbered nodes (document 01, "The file"): their records, the tests of a list of nodes, and what `Canonical` (canonical.rs) appends to one.
+#![tactic(auto)]
+
 ghost use Rattle.std.specs.Prelude.{◌≡◌, max, ◌+◌, ◌*◌, ◌≤◌, ◌<◌, ◌++◌, length, get_or};
 ghost use Rattle.std.proofs.lemmas.List.Edits.{sets};
 ghost use Rattle.std.specs.Float.{binary64};

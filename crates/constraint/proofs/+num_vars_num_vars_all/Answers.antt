@@ -1,9 +1,8 @@
 -- `constraint::num_vars` and `constraint::num_vars_all` meet their contracts: the record's number falls at each call. Assumes nothing.
-use Prim.Native.Nat.{ℕ, ◌+◌, ◌*◌, max}
+use Prim.Native.Nat.{max}
 use mathlib.Core.List.{List}
 use mathlib.Core.Path.{refl, sym, ap, ap₂, ◌∙◌}
 use native.Mathlib.Omega.{arith}
-use borrow.Author.Rules.{rules}
 use Rattle.constraint.specs.Constraint.{Constraint, num_vars_all}
 use Rattle.constraint.specs.Records.{gather}
 use Rattle.constraint.specs.RecordLaws.{record_there, taken_here, none_taken, some, start_falls, before_last, last, up_to_lem}

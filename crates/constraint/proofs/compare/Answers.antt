@@ -1,7 +1,6 @@
 -- `constraint::compare` meets its contract: each way out is the next refusal in order. Assumes nothing.
 use mathlib.Core.Path.{sym, ◌∙◌}
 use native.Mathlib.Omega.{arith}
-use borrow.Author.Rules.{rules}
 use Rattle.tree.specs.CanonicalLaws.{sub_accepted}
 use Rattle.constraint.specs.PutLaws.{puts_alone}
 use Rattle.constraint.proofs.Outcomes.{as_sub, short, done}

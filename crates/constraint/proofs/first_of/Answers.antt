@@ -1,5 +1,4 @@
 -- `constraint::first_of` meets its contract. Assumes nothing.
-use borrow.Author.Rules.{rules}
 use mathlib.Core.Path.{sym, ◌∙◌}
 use native.Mathlib.Omega.{arith}
 use Rattle.constraint.proofs.Lists.{first_of, none_of}

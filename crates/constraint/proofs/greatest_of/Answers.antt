@@ -1,9 +1,5 @@
 -- `constraint::greatest_of` meets its contract: the greatest so far and of what is left is the greatest of all. Assumes nothing.
-use Prim.Native.Nat.{max, ◌-◌, ◌≤◌, ◌<◌}
-use mathlib.Core.Path.{◌≡◌}
 use native.Mathlib.Omega.{arith}
-use lib.ListN.{take, drop}
-use Rattle.constraint.specs.Code.{greatest}
 use Rattle.constraint.proofs.Lists.{greatest_cons, greatest_none}
 use Rattle.constraint.proofs.greatest_of.Goals as goal
 

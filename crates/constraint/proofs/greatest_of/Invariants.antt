@@ -1,10 +1,8 @@
 -- What each turn of the loop keeps, and what falls.
 use Prim.Native.Nat.{max, ◌-◌, ◌≤◌, ◌<◌}
 use mathlib.Core.Path.{◌≡◌}
-use native.Mathlib.Omega.{arith}
 use lib.ListN.{take, drop}
 use Rattle.constraint.specs.Code.{greatest}
-use Rattle.constraint.proofs.Lists.{greatest_cons, greatest_none}
 use Rattle.constraint.proofs.greatest_of.Given as goal
 
 abbrev pub invariant-loop-j : goal.invariant-loop-j

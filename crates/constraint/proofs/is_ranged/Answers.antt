@@ -1,6 +1,5 @@
 -- `constraint::is_ranged` meets its contract. Assumes nothing.
 use mathlib.Core.Path.{sym, ap, ◌∙◌}
-use borrow.Author.Rules.{rules}
 use Rattle.constraint.specs.Records.{is_ranged}
 use Rattle.constraint.proofs.is_ranged.Goals as goal
 

@@ -1,7 +1,6 @@
 -- `constraint::is_record` meets its contract: each arm is the definition's test of that kind. Assumes nothing.
 use mathlib.Core.Path.{sym, ◌∙◌}
 use borrow.Author.Tests.{lt-ltb, le-ltb, ne_eqb}
-use borrow.Author.Rules.{rules}
 use Rattle.constraint.specs.Records.{is_record}
 use Rattle.number.specs.Notation.{if◌then◌else◌}
 use Rattle.constraint.proofs.is_record.Goals as goal

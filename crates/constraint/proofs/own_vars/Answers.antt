@@ -2,7 +2,6 @@
 use mathlib.Core.Path.{sym, ap, ◌∙◌, subst}
 use native.Mathlib.Numerals.{add-one}
 use native.Mathlib.Omega.{arith}
-use borrow.Author.Rules.{rules}
 use Rattle.constraint.specs.Code.{own_vars, Named}
 use Rattle.constraint.proofs.own_vars.Goals as goal
 

@@ -1,7 +1,6 @@
 -- `constraint::record_in` meets its contract: each arm is the definition's case of that kind. Assumes nothing.
 use mathlib.Core.Path.{sym, ◌∙◌}
 use borrow.Author.Tests.{lt-ltb, le-ltb, ne_eqb}
-use borrow.Author.Rules.{rules}
 use Rattle.constraint.specs.Records.{record_at}
 use Rattle.number.specs.Notation.{if◌then◌else◌}
 use Rattle.constraint.proofs.record_in.Goals as goal

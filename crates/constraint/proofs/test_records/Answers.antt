@@ -1,14 +1,12 @@
 -- `constraint::test_records` meets its contract: the stack holds the depths, the quantifiers and the starts of the finished constraints, and no record passed is refused. Assumes nothing.
-use Prim.Native.Nat.{◌-◌, ◌≤◌}
 use mathlib.Core.Path.{◌≡◌, refl, sym, ap, ◌∙◌}
 use native.Mathlib.Omega.{arith}
-use borrow.Author.Tests.{not-true, not-false}
-use lib.ListN.{length, length-set}
+use lib.ListN.{length-set}
 use Rattle.constraint.specs.Starts.{begun}
 use Rattle.constraint.specs.Records.{takes, finished, formula_at}
 use Rattle.constraint.specs.Constraint.{levels, quantifiers}
 use Rattle.record.specs.Refusal.{first, filled}
-use Rattle.constraint.proofs.Stack.{Stacked, Begun, five_record, five_few, six, seven_depth, seven_quant, depth_told, quant_told, stacked, start_told, begins, stop, one_left, not_one}
+use Rattle.constraint.proofs.Stack.{five_record, five_few, six, seven_depth, seven_quant, depth_told, quant_told, stacked, start_told, begins, stop, one_left, not_one}
 use Rattle.constraint.proofs.test_records.Goals as goal
 use Rattle.constraint.proofs.test_records.Goals.{After-nesting_of-x}
 

@@ -1,14 +1,8 @@
 -- What each turn of the loop keeps, and what falls.
 use Prim.Native.Nat.{◌-◌, ◌≤◌}
-use mathlib.Core.Path.{◌≡◌, refl, sym, ap, ◌∙◌}
-use native.Mathlib.Omega.{arith}
-use borrow.Author.Tests.{not-true, not-false}
-use lib.ListN.{length, length-set}
-use Rattle.constraint.specs.Starts.{begun}
-use Rattle.constraint.specs.Records.{takes, finished, formula_at}
-use Rattle.constraint.specs.Constraint.{levels, quantifiers}
-use Rattle.record.specs.Refusal.{first, filled}
-use Rattle.constraint.proofs.Stack.{Stacked, Begun, five_record, five_few, six, seven_depth, seven_quant, depth_told, quant_told, stacked, start_told, begins, stop, one_left, not_one}
+use mathlib.Core.Path.{◌≡◌}
+use lib.ListN.{length}
+use Rattle.constraint.proofs.Stack.{Stacked, Begun}
 use Rattle.constraint.proofs.test_records.Given as goal
 
 abbrev pub invariant-loop-k : goal.invariant-loop-k

@@ -1,5 +1,4 @@
 -- `constraint::write_record` meets its contract. Assumes nothing.
-use borrow.Author.Rules.{rules}
 use mathlib.Core.Path.{subst}
 use native.Mathlib.Omega.{arith}
 use Rattle.constraint.proofs.Putting.{puts_atom, puts_not, puts_and, puts_or, puts_forall, puts_exists}

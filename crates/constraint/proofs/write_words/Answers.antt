@@ -1,5 +1,4 @@
 -- `constraint::write_words` meets its contract. Assumes nothing.
-use borrow.Author.Rules.{rules}
 use Rattle.constraint.proofs.Putting.{record_words}
 use Rattle.constraint.proofs.write_words.Goals as goal
 

@@ -1,7 +1,6 @@
 -- `decide::answers_at` meets its contract. Assumes nothing.
 use mathlib.Core.Path.{sym}
 use native.Mathlib.Omega.{arith}
-use borrow.Author.Rules.{rules}
 use Rattle.point.specs.Room.{full}
 use Rattle.decide.proofs.Sampling.{point_there, point_values, as_wanted, as_unwanted}
 use Rattle.decide.proofs.answers_at.Goals as goal

@@ -1,7 +1,6 @@
 -- `decide::boxes_at` meets its contract. Assumes nothing.
 use mathlib.Core.Path.{refl}
 use lib.Ieee.{of_bits, of_int, neg}
-use borrow.Author.Rules.{rules}
 use Rattle.interval.specs.Boxes.{boxes_of}
 use Rattle.decide.proofs.Sampling.{box_placed, box_left_out}
 use Rattle.decide.proofs.boxes_at.Goals as goal

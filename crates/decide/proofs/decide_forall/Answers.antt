@@ -1,6 +1,5 @@
 -- `decide::decide_forall` meets its contract. Assumes nothing.
 use mathlib.Core.Path.{refl}
-use borrow.Author.Rules.{rules}
 use Rattle.file.specs.FileLaws.{some_given, last_given}
 use Rattle.decide.specs.Deciding.{decide_forall_given}
 use Rattle.decide.proofs.Calling.{decision_accepted, decision_refused, decision_made}

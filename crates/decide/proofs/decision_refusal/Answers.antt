@@ -1,5 +1,4 @@
 -- `decide::decision_refusal` meets its contract. Assumes nothing.
-use borrow.Author.Rules.{rules}
 use Rattle.decide.proofs.Calling.{refused_records, refused_range, no_room, none_refused}
 use Rattle.decide.proofs.decision_refusal.Goals as goal
 

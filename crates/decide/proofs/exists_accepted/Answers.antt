@@ -1,5 +1,4 @@
 -- `decide::exists_accepted` meets its contract. Assumes nothing.
-use borrow.Author.Rules.{rules}
 use Rattle.decide.proofs.Sampling.{exists_unknown, exists_true}
 use Rattle.decide.proofs.exists_accepted.Goals as goal
 

@@ -1,11 +1,6 @@
 -- `decide::first_sample` meets its contract. Assumes nothing.
-use Prim.Native.Nat.{◌-◌}
-use mathlib.Core.Path.{◌≡◌, refl, sym, ◌∙◌}
+use mathlib.Core.Path.{refl, sym, ◌∙◌}
 use native.Mathlib.Omega.{arith}
-use lib.ListN.{length, drop}
-use Rattle.constraint.specs.Records.{constraint_at}
-use Rattle.decide.specs.Views.{answers_at}
-use Rattle.decide.specs.Deciding.{first}
 use Rattle.decide.proofs.Sampling.{found, passed_over, found_none}
 use Rattle.decide.proofs.first_sample.Goals as goal
 

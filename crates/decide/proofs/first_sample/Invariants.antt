@@ -1,12 +1,10 @@
 -- What each turn of the loop keeps, and what falls.
 use Prim.Native.Nat.{◌-◌}
-use mathlib.Core.Path.{◌≡◌, refl, sym, ◌∙◌}
-use native.Mathlib.Omega.{arith}
+use mathlib.Core.Path.{◌≡◌}
 use lib.ListN.{length, drop}
 use Rattle.constraint.specs.Records.{constraint_at}
 use Rattle.decide.specs.Views.{answers_at}
 use Rattle.decide.specs.Deciding.{first}
-use Rattle.decide.proofs.Sampling.{found, passed_over, found_none}
 use Rattle.decide.proofs.first_sample.Given as goal
 
 abbrev pub invariant-loop-i : goal.invariant-loop-i

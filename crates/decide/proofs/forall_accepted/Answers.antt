@@ -1,5 +1,4 @@
 -- `decide::forall_accepted` meets its contract. Assumes nothing.
-use borrow.Author.Rules.{rules}
 use Rattle.decide.proofs.Sampling.{forall_true, forall_unknown, forall_false}
 use Rattle.decide.proofs.forall_accepted.Goals as goal
 

@@ -1,6 +1,5 @@
 -- `decide::is_refuted` meets its contract. Assumes nothing.
 use mathlib.Core.Path.{ap, ◌∙◌}
-use borrow.Author.Rules.{rules}
 use Rattle.narrow.specs.Narrowing.{Narrowed, is_conflict}
 use Rattle.decide.specs.Deciding.{refutes}
 use Rattle.decide.proofs.is_refuted.Goals as goal

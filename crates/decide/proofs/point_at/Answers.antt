@@ -1,6 +1,5 @@
 -- `decide::point_at` meets its contract. Assumes nothing.
 use lib.Ieee.{of_bits, of_int}
-use borrow.Author.Rules.{rules}
 use Rattle.decide.proofs.Sampling.{placed, left_out}
 use Rattle.decide.proofs.point_at.Goals as goal
 

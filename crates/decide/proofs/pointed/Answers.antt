@@ -1,5 +1,4 @@
 -- `decide::pointed` meets its contract. Assumes nothing.
-use borrow.Author.Rules.{rules}
 use Rattle.decide.specs.Decisions.{point_length}
 use Rattle.decide.proofs.pointed.Goals as goal
 

@@ -1,6 +1,5 @@
 -- `file::bound_in` meets its contract. Assumes nothing.
 use mathlib.Core.Path.{ap₂, ◌∙◌}
-use borrow.Author.Rules.{rules}
 use Rattle.file.specs.File.{bound_at}
 use Rattle.interval.specs.Interval.{◌‥◌}
 use Rattle.file.proofs.bound_in.Goals as goal

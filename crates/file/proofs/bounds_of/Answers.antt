@@ -1,5 +1,4 @@
 -- `file::bounds_of` meets its contract. Assumes nothing.
-use borrow.Author.Rules.{rules}
 use Rattle.file.proofs.Parts.{bounds_part}
 use Rattle.file.proofs.bounds_of.Goals as goal
 

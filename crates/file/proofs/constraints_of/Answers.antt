@@ -1,5 +1,4 @@
 -- `file::constraints_of` meets its contract. Assumes nothing.
-use borrow.Author.Rules.{rules}
 use Rattle.file.proofs.Parts.{constraints_part}
 use Rattle.file.proofs.constraints_of.Goals as goal
 

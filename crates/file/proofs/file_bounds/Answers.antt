@@ -1,8 +1,7 @@
 -- `file::file_bounds` meets its contract. Assumes nothing.
-use Prim.Native.Nat.{◌-◌, ◌≤◌}
-use mathlib.Core.Path.{◌≡◌, refl, ◌∙◌}
+use mathlib.Core.Path.{refl, ◌∙◌}
 use native.Mathlib.Omega.{arith}
-use lib.ListN.{length, take, length-set}
+use lib.ListN.{length-set}
 use Rattle.interval.specs.Boxes.{intervals, boxes_of}
 use Rattle.file.specs.File.{bounds}
 use Rattle.file.specs.FileLaws.{length_bounds}

@@ -1,12 +1,9 @@
 -- What each turn of the loop keeps, and what falls.
 use Prim.Native.Nat.{◌-◌, ◌≤◌}
-use mathlib.Core.Path.{◌≡◌, refl, ◌∙◌}
-use native.Mathlib.Omega.{arith}
-use lib.ListN.{length, take, length-set}
-use Rattle.interval.specs.Boxes.{intervals, boxes_of}
+use mathlib.Core.Path.{◌≡◌}
+use lib.ListN.{length, take}
+use Rattle.interval.specs.Boxes.{boxes_of}
 use Rattle.file.specs.File.{bounds}
-use Rattle.file.specs.FileLaws.{length_bounds}
-use Rattle.file.proofs.Bounds.{bounds_next, bounds_done}
 use Rattle.file.proofs.file_bounds.Given as goal
 
 abbrev pub invariant-loop-i : goal.invariant-loop-i

@@ -1,6 +1,5 @@
 -- `file::is_headed` meets its contract. Assumes nothing.
 use borrow.Author.Tests.{le-leb, lt-leb}
-use borrow.Author.Rules.{rules}
 use Rattle.file.specs.File.{is_headed}
 use Rattle.file.proofs.is_headed.Goals as goal
 

@@ -1,5 +1,4 @@
 -- `file::is_laid_out` meets its contract: the offsets fit, since each count is a u32. Assumes nothing.
-use borrow.Author.Rules.{rules}
 use Rattle.file.specs.File.{is_laid_out}
 use Rattle.file.proofs.is_laid_out.Goals as goal
 

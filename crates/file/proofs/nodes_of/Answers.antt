@@ -1,6 +1,5 @@
 -- `file::nodes_of` meets its contract. Assumes nothing.
 use mathlib.Core.Path.{refl}
-use borrow.Author.Rules.{rules}
 use Rattle.file.proofs.Parts.{nodes_part}
 use Rattle.file.proofs.nodes_of.Goals as goal
 

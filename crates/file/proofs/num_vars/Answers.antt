@@ -1,7 +1,6 @@
 -- `file::num_vars` meets its contract: an accepted file's last record is its constraint. Assumes nothing.
 use mathlib.Core.Path.{refl, sym, ◌∙◌}
 use native.Mathlib.Omega.{arith}
-use borrow.Author.Rules.{rules}
 use Rattle.constraint.specs.Constraint.{num_vars}
 use Rattle.file.specs.FileLaws.{is_laid, some_constraint, last_ready}
 use Rattle.file.proofs.Answers.{refused, value}

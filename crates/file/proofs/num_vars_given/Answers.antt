@@ -1,6 +1,5 @@
 -- `file::num_vars_given` meets its contract: the last of accepted records is the constraint. Assumes nothing.
 use mathlib.Core.Path.{refl, sym, ◌∙◌}
-use borrow.Author.Rules.{rules}
 use Rattle.constraint.specs.Constraint.{num_vars}
 use Rattle.file.specs.FileLaws.{some_given, last_given}
 use Rattle.file.proofs.Answers.{given_refusal_lem, given_value}

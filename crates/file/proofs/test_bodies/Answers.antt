@@ -1,7 +1,6 @@
 -- `file::test_bodies` meets its contract: each way out is the next refusal in order. Assumes nothing.
 use mathlib.Core.Path.{ap}
 use native.Mathlib.Omega.{arith}
-use borrow.Author.Rules.{rules}
 use lib.ListN.{length}
 use Rattle.file.specs.FileLaws.{length_constraints, length_bounds}
 use Rattle.file.proofs.Parts.{body_nodes, body_records, body_bounds}

@@ -1,9 +1,7 @@
 -- `file::test_bounds` meets its contract: no bound passed is refused. Assumes nothing.
-use Prim.Native.Nat.{◌-◌, ◌≤◌}
-use mathlib.Core.Path.{◌≡◌, refl, sym, ap, ◌∙◌}
+use mathlib.Core.Path.{refl, sym, ap, ◌∙◌}
 use native.Mathlib.Omega.{arith}
 use native.Mathlib.Nat.{le_antisymm}
-use borrow.Author.Tests.{not-true, not-false}
 use lib.Ieee.{binary64}
 use Rattle.file.specs.File.{bound_refusal}
 use Rattle.record.specs.RefusalLaws.{none_more, first_here}

@@ -1,7 +1,5 @@
 -- `file::test_file` meets its contract. Assumes nothing.
 use mathlib.Core.Path.{sym, ◌∙◌}
-use borrow.Author.Tests.{not-true, not-false}
-use borrow.Author.Rules.{rules}
 use Rattle.file.specs.FileLaws.{headed_long, laid}
 use Rattle.file.proofs.Parts.{no_head, no_layout, by_bodies}
 use Rattle.file.proofs.test_file.Goals as goal

@@ -1,5 +1,4 @@
 -- `file::test_sized` meets its contract: each way out is the next refusal in order. Assumes nothing.
-use borrow.Author.Rules.{rules}
 use mathlib.Core.Path.{◌∙◌}
 use native.Mathlib.Omega.{arith}
 use Rattle.file.specs.FileLaws.{counted}

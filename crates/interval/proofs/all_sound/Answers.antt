@@ -1,10 +1,7 @@
 -- `interval::all_sound` meets its contract. Assumes nothing.
-use mathlib.Core.Path.{◌≡◌, refl, sym, ◌∙◌}
-use Prim.Native.Nat.{◌-◌}
+use mathlib.Core.Path.{refl, sym, ◌∙◌}
 use native.Mathlib.Omega.{arith}
 use borrow.Author.Rules.{rules}
-use lib.ListN.{length, drop}
-use Rattle.interval.specs.Boxes.{intervals, all_sound}
 use Rattle.interval.proofs.Loops.{unsound_here, sound_here, all_sound_lem}
 use Rattle.interval.proofs.all_sound.Goals as goal
 

@@ -1,11 +1,8 @@
 -- What each turn of the loop keeps, and what falls.
-use mathlib.Core.Path.{◌≡◌, refl, sym, ◌∙◌}
+use mathlib.Core.Path.{◌≡◌}
 use Prim.Native.Nat.{◌-◌}
-use native.Mathlib.Omega.{arith}
-use borrow.Author.Rules.{rules}
 use lib.ListN.{length, drop}
 use Rattle.interval.specs.Boxes.{intervals, all_sound}
-use Rattle.interval.proofs.Loops.{unsound_here, sound_here, all_sound_lem}
 use Rattle.interval.proofs.all_sound.Given as goal
 
 abbrev pub invariant-loop-i : goal.invariant-loop-i

@@ -1,6 +1,5 @@
 -- `interval::are_boxes` meets its contract. Assumes nothing.
 use mathlib.Core.Path.{sym, ◌∙◌}
-use borrow.Author.Rules.{rules}
 use Rattle.interval.specs.Boxes.{are_boxes}
 use Rattle.interval.specs.BoxLaws.{as_many}
 use Rattle.interval.proofs.are_boxes.Goals as goal

@@ -1,7 +1,6 @@
 -- `interval::domain_is_empty` meets its contract. Assumes nothing.
 use mathlib.Core.Path.{sym, ◌∙◌}
 use native.Mathlib.Omega.{arith}
-use borrow.Author.Rules.{rules}
 use Rattle.interval.specs.BoxLaws.{as_many, few, all_there}
 use Rattle.interval.specs.Domain.{domain_is_empty}
 use Rattle.interval.proofs.domain_is_empty.Goals as goal

@@ -1,6 +1,5 @@
 -- `interval::domain_new` meets its contract. Assumes nothing.
 use mathlib.Core.Path.{sym, ◌∙◌}
-use borrow.Author.Rules.{rules}
 use Rattle.record.specs.RefusalLaws.{refused_or_lem}
 use Rattle.interval.specs.Domain.{domain_new}
 use Rattle.interval.specs.DomainLaws.{domain_boxes, domain_room}

@@ -1,5 +1,4 @@
 -- `interval::domain_refusal` meets its contract. Assumes nothing.
-use borrow.Author.Rules.{rules}
 use Rattle.interval.specs.Domain.{domain_refusal}
 use Rattle.interval.proofs.domain_refusal.Goals as goal
 

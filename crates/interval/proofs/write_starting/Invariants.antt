@@ -1,13 +1,8 @@
 -- What each turn of the loop keeps, and what falls.
 use Prim.Native.Nat.{◌-◌, ◌≤◌}
-use mathlib.Core.Path.{◌≡◌, ap, ◌∙◌}
-use mathlib.Core.List.{List}
-use native.Mathlib.Omega.{arith}
-use lib.ListN.{length}
-use lib.Seq.{paste, paste-zero}
+use mathlib.Core.Path.{◌≡◌}
+use lib.Seq.{paste}
 use Rattle.interval.specs.Boxes.{starting, intervals, lows, highs}
-use Rattle.interval.specs.PlacesLaws.{copied_length, starting_lows, starting_highs, low_next, high_next}
-use Rattle.interval.specs.declared.Interval.{Interval}
 use Rattle.interval.proofs.write_starting.Given as goal
 
 abbrev pub invariant-loop-i : goal.invariant-loop-i

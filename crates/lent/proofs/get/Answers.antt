@@ -1,8 +1,7 @@
 -- `lent::get` meets its contract. Assumes nothing.
 use mathlib.Core.Path.{◌∙◌}
-use lib.Ieee.{Float}
 use Rattle.lent.proofs.Copying.{get_there, get_past}
-use borrow.Author.Rules.{rules, length_unmapped}
+use borrow.Author.Rules.{rules}
 use Rattle.lent.proofs.get.Goals as goal
 
 pub offset_bounds-boxes-i : goal.offset_bounds-boxes-i

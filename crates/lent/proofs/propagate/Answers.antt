@@ -1,5 +1,5 @@
 -- `lent::propagate` meets its contract: each of its two ways out. Assumes nothing.
-use Rattle.std.proofs.Common.{sym, ap, ◌∙◌, subst, List, ℕ, Bool, not, T}
+use Rattle.std.proofs.Common.{sym, ◌∙◌, subst, Bool, not, T}
 use Rattle.settings.specs.Settings.{usual}
 use Rattle.interval.specs.declared.Boxes.{Boxes}
 use Rattle.lent.specs.Copies.{Narrows}

@@ -1,9 +1,8 @@
 -- `lent::put` meets its contract. Assumes nothing.
 use mathlib.Core.Path.{refl}
-use lib.Ieee.{Float}
 use Rattle.lent.specs.Copies.{put_of}
 use Rattle.lent.proofs.Copying.{put_past}
-use borrow.Author.Rules.{rules, length_unmapped}
+use borrow.Author.Rules.{rules}
 use Rattle.lent.proofs.put.Goals as goal
 
 pub offset_bounds-out-i : goal.offset_bounds-out-i

@@ -1,7 +1,6 @@
 -- `maths::angle_of` meets its contract. Assumes nothing.
 use mathlib.Core.Path.{◌≡◌, sym, ap, ◌∙◌}
 use lib.Ieee.{neg, nan_bits}
-use borrow.Author.Rules.{rules}
 use Rattle.number.specs.Notation.{if◌then◌else◌, bits, whole, ◌⊖◌, ◌≺◌}
 use Rattle.maths.specs.Cplx.{angle}
 use Rattle.number.specs.Literals.{zero_is}

@@ -1,7 +1,6 @@
 -- `maths::at_angle` meets its contract. Assumes nothing.
 use lib.Dec.{T}
 use lib.Ieee.{eq, of_bits}
-use borrow.Author.Rules.{rules}
 use Rattle.number.specs.Order.{naught, passed}
 use Rattle.number.specs.Literals.{one_is}
 use Rattle.maths.specs.Zeros.{cos_zero, sin_zero}

@@ -1,6 +1,5 @@
 -- `maths::atan` meets its contract. Assumes nothing.
 use mathlib.Core.Path.{◌≡◌, refl}
-use borrow.Author.Rules.{rules}
 use lib.Ieee.{nan_bits, of_bits, round}
 use Rattle.number.specs.Notation.{if◌then◌else◌, bits, decimal}
 use Rattle.maths.specs.Trig.{atan_of}

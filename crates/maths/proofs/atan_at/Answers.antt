@@ -1,5 +1,4 @@
 -- `maths::atan_at` meets its contract. Assumes nothing.
-use borrow.Author.Rules.{rules}
 use Rattle.maths.specs.Trig.{atan_at}
 use Rattle.maths.proofs.atan_at.Goals as goal
 

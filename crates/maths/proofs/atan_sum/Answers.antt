@@ -1,11 +1,10 @@
 -- `maths::atan_sum` meets its contract: what is left of the series does not change. Assumes nothing.
-use Prim.Native.Nat.{◌≤◌}
 use mathlib.Core.Path.{◌≡◌, refl, ◌∙◌}
 use native.Mathlib.Omega.{arith}
 use lib.Ieee.{of_bits, of_int}
 use Rattle.number.specs.Notation.{bits, whole}
 use Rattle.number.specs.Literals.{one_is}
-use Rattle.maths.specs.Series.{series, one_less, none_left}
+use Rattle.maths.specs.Series.{one_less, none_left}
 use Rattle.maths.specs.Trig.{atan_step, atan_sum}
 use Rattle.maths.proofs.atan_sum.Goals as goal
 

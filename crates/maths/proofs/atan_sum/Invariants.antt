@@ -1,11 +1,7 @@
 -- What each turn of the loop keeps, and what falls.
 use Prim.Native.Nat.{◌≤◌}
-use mathlib.Core.Path.{◌≡◌, refl, ◌∙◌}
-use native.Mathlib.Omega.{arith}
-use lib.Ieee.{of_bits, of_int}
-use Rattle.number.specs.Notation.{bits, whole}
-use Rattle.number.specs.Literals.{one_is}
-use Rattle.maths.specs.Series.{series, one_less, none_left}
+use mathlib.Core.Path.{◌≡◌}
+use Rattle.maths.specs.Series.{series}
 use Rattle.maths.specs.Trig.{atan_step, atan_sum}
 use Rattle.maths.proofs.atan_sum.Given as goal
 

@@ -1,5 +1,4 @@
 -- `maths::complex_exp` meets its contract. Assumes nothing.
-use borrow.Author.Rules.{rules}
 use Rattle.maths.specs.Cplx.{complex_exp}
 use Rattle.maths.proofs.complex_exp.Goals as goal
 

@@ -1,6 +1,5 @@
 -- `maths::complex_ln` meets its contract. Assumes nothing.
 use mathlib.Core.Path.{sym, ◌∙◌}
-use borrow.Author.Rules.{rules}
 use lib.Ieee.{nan_bits}
 use Rattle.number.specs.Notation.{if◌then◌else◌}
 use Rattle.maths.specs.Cplx.{complex_ln, real_ln, other_ln}

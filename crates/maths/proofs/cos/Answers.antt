@@ -1,7 +1,6 @@
 -- `maths::cos` meets its contract. Assumes nothing.
 use mathlib.Core.Path.{sym, ◌∙◌}
 use native.Mathlib.Omega.{arith}
-use borrow.Author.Rules.{rules}
 use Rattle.number.specs.Literals.{undefined}
 use Rattle.maths.specs.Trig.{cos_of}
 use Rattle.maths.proofs.Quarters.{by_small, further}

@@ -1,5 +1,4 @@
 -- `maths::cos_at` meets its contract. Assumes nothing.
-use borrow.Author.Rules.{rules}
 use Rattle.maths.specs.Trig.{cos_at}
 use Rattle.maths.proofs.cos_at.Goals as goal
 

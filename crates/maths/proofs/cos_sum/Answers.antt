@@ -1,12 +1,10 @@
 -- `maths::cos_sum` meets its contract: what is left of the series does not change. Assumes nothing.
-use Prim.Native.Nat.{◌≤◌}
-use mathlib.Core.Path.{◌≡◌, ◌∙◌}
+use mathlib.Core.Path.{◌∙◌}
 use native.Mathlib.Nat.{lt_of_le_of_lt, mul-le-mul}
 use native.Mathlib.Omega.{arith}
 use lib.Dec.{lit<}
-use Rattle.number.specs.Notation.{whole}
 use Rattle.number.specs.Literals.{one_is}
-use Rattle.maths.specs.Series.{series, one_less, none_left}
+use Rattle.maths.specs.Series.{one_less, none_left}
 use Rattle.maths.specs.Trig.{cos_step}
 use Rattle.maths.proofs.cos_sum.Goals as goal
 

@@ -10,7 +10,6 @@ use lib.Ieee.{binary64, is_nan, mul, neg, nan_bits, of_bits, of_int}
 use lib.Ieee.Compare.{differs_from_itself}
 use mir.Syntax.{w64}
 use mir.ValLaws.{to_z-of_z}
-use borrow.Author.Rules.{rules}
 use Rattle.number.specs.Near.{nearest, below}
 use Rattle.number.specs.Notation.{if◌then◌else◌, whole, integer, bits}
 use Rattle.maths.specs.Exp.{exp_of, exp_at}

@@ -1,9 +1,8 @@
 -- `maths::exp_sum` meets its contract: what is left of the series does not change. Assumes nothing.
-use Prim.Native.Nat.{◌≤◌}
-use mathlib.Core.Path.{◌≡◌, ◌∙◌}
+use mathlib.Core.Path.{◌∙◌}
 use native.Mathlib.Omega.{arith}
 use Rattle.number.specs.Literals.{one_is}
-use Rattle.maths.specs.Series.{series, one_less, none_left}
+use Rattle.maths.specs.Series.{one_less, none_left}
 use Rattle.maths.specs.Exp.{exp_step, exp_sum}
 use Rattle.maths.proofs.exp_sum.Goals as goal
 

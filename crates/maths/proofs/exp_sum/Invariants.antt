@@ -1,9 +1,7 @@
 -- What each turn of the loop keeps, and what falls.
 use Prim.Native.Nat.{◌≤◌}
-use mathlib.Core.Path.{◌≡◌, ◌∙◌}
-use native.Mathlib.Omega.{arith}
-use Rattle.number.specs.Literals.{one_is}
-use Rattle.maths.specs.Series.{series, one_less, none_left}
+use mathlib.Core.Path.{◌≡◌}
+use Rattle.maths.specs.Series.{series}
 use Rattle.maths.specs.Exp.{exp_step, exp_sum}
 use Rattle.maths.proofs.exp_sum.Given as goal
 

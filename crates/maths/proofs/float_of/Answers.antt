@@ -7,7 +7,6 @@ use lib.Signed.{mag}
 use lib.Ieee.{binary64, in_float}
 use mir.Syntax.{w64}
 use mir.ValLaws.{to_z-of_z}
-use borrow.Author.Rules.{rules}
 use Rattle.maths.proofs.float_of.Goals as goal
 
 exact : (z : ℤ) → mag z < 2 ^ 53 → T (in_float binary64 z)

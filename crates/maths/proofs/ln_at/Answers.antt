@@ -2,7 +2,6 @@
 use lib.Ieee.{nan_bits}
 use mir.Syntax.{w64}
 use mir.ValLaws.{to_z-of_z}
-use borrow.Author.Rules.{rules}
 use Rattle.maths.specs.Ln.{ln_at}
 use Rattle.number.specs.Literals.{one_is, two_is}
 use Rattle.maths.proofs.ln_at.Goals as goal

@@ -1,5 +1,4 @@
 -- `maths::log_size` meets its contract. Assumes nothing.
-use borrow.Author.Rules.{rules}
 use Rattle.maths.specs.Cplx.{log_size}
 use Rattle.number.specs.Literals.{one_is}
 use Rattle.maths.proofs.log_size.Goals as goal

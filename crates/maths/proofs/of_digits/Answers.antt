@@ -1,6 +1,5 @@
 -- `maths::of_digits` meets its contract: the pattern lies below the infinity's. Assumes nothing.
 use native.Mathlib.Omega.{arith}
-use borrow.Author.Rules.{rules}
 use lib.Ieee.{binary64, to_bits}
 use Rattle.number.specs.Next.{no_nan_below}
 use Rattle.maths.proofs.of_digits.Goals as goal

@@ -1,7 +1,6 @@
 -- `maths::quick_exp` meets its contract. Assumes nothing.
 use mathlib.Core.Path.{sym, ap, ◌∙◌}
 use lib.Ieee.{eq, of_bits, nan_bits}
-use borrow.Author.Rules.{rules}
 use Rattle.number.specs.Order.{passed}
 use Rattle.number.specs.Literals.{one_is}
 use Rattle.maths.specs.Zeros.{exp_zero, exp_one}

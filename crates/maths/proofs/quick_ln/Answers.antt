@@ -1,7 +1,6 @@
 -- `maths::quick_ln` meets its contract. Assumes nothing.
 use mathlib.Core.Path.{sym, ap, ◌∙◌}
 use lib.Ieee.{eq}
-use borrow.Author.Rules.{rules}
 use Rattle.number.specs.Order.{passed}
 use Rattle.number.specs.Literals.{zero_is, one_is}
 use Rattle.maths.specs.Zeros.{ln_one}

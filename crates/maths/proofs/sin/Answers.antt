@@ -1,6 +1,5 @@
 -- `maths::sin` meets its contract. Assumes nothing.
 use mathlib.Core.Path.{sym, ◌∙◌}
-use borrow.Author.Rules.{rules}
 use Rattle.number.specs.Literals.{undefined}
 use Rattle.maths.specs.Trig.{sin_of}
 use Rattle.maths.proofs.sin.Goals as goal

@@ -1,5 +1,4 @@
 -- `maths::sin_at` meets its contract. Assumes nothing.
-use borrow.Author.Rules.{rules}
 use Rattle.maths.specs.Trig.{sin_at}
 use Rattle.maths.proofs.sin_at.Goals as goal
 

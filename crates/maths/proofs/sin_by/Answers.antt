@@ -1,5 +1,4 @@
 -- `maths::sin_by` meets its contract. Assumes nothing.
-use borrow.Author.Rules.{rules}
 use borrow.Author.Tests.{eq-eqb, ne_eqb}
 use Rattle.number.specs.Notation.{if◌then◌else◌}
 use Rattle.maths.specs.Trig.{sin_by}

@@ -1,12 +1,8 @@
 -- What each turn of the loop keeps, and what falls.
 use Prim.Native.Nat.{◌≤◌}
-use mathlib.Core.Path.{◌≡◌, ◌∙◌}
-use native.Mathlib.Nat.{lt_of_le_of_lt, mul-le-mul}
-use native.Mathlib.Omega.{arith}
-use lib.Dec.{lit<}
+use mathlib.Core.Path.{◌≡◌}
 use Rattle.number.specs.Notation.{whole}
-use Rattle.number.specs.Literals.{one_is}
-use Rattle.maths.specs.Series.{series, one_less, none_left}
+use Rattle.maths.specs.Series.{series}
 use Rattle.maths.specs.Trig.{sin_step}
 use Rattle.maths.proofs.sin_sum.Given as goal
 

@@ -1,6 +1,5 @@
 -- `maths::turn_of` meets its contract. Assumes nothing.
 use mathlib.Core.Path.{◌≡◌, refl, sym, ap, ◌∙◌}
-use borrow.Author.Rules.{rules}
 use mathlib.Core.Bool.{false}
 use Prim.Native.Nat.{◌^◌}
 use lib.Ieee.{is_nan, lt, of_bits, of_int}

@@ -1,8 +1,6 @@
 -- `narrow::backward_both`, `narrow::backward_eml` and `narrow::backward_propagate` meet their contracts. Assumes nothing.
-use Prim.Native.Nat.{ℕ, suc, max, ◌*◌}
 use mathlib.Core.Path.{refl, sym, ◌∙◌}
 use native.Mathlib.Omega.{arith}
-use borrow.Author.Rules.{rules}
 use Rattle.number.specs.Literals.{one_is}
 use Rattle.tree.specs.NodeLaws.{tree_one, tree_const, tree_var, record_there, at_left, at_right, tree_is}
 use Rattle.narrow.proofs.Back.{back_empty, back_one, back_const, back_var, back_eml, answered, asked_both}

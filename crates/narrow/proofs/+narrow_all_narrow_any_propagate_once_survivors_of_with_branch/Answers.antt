@@ -1,11 +1,7 @@
 -- `narrow::narrow_all`, `narrow::narrow_any`, `narrow::propagate_once`, `narrow::survivors_of` and `narrow::with_branch` meet their contracts. Assumes nothing.
-use Prim.Native.Nat.{ℕ, ◌+◌, ◌*◌, ◌≤◌}
 use mathlib.Core.Path.{refl, sym, ap, ◌∙◌}
 use mathlib.Core.List.{List}
 use native.Mathlib.Omega.{arith}
-use borrow.Author.Rules.{rules, length_unmapped}
-use lib.Ieee.{Float}
-use lib.ListN.{length}
 use lib.Seq.{length-take-le}
 use Rattle.interval.specs.declared.Interval.{Interval}
 use Rattle.interval.specs.Boxes.{boxes_of}

@@ -1,10 +1,8 @@
 -- `narrow::adopt` meets its contract. Assumes nothing.
 use mathlib.Core.Path.{◌≡◌}
-use native.Mathlib.Omega.{arith}
 use borrow.Author.Rules.{rules}
 use lib.ListN.{length}
-use Rattle.interval.specs.Interval.{hull}
-use Rattle.narrow.proofs.Branches.{adopt_next, adopt_done, adopt_begins, Adopting}
+use Rattle.narrow.proofs.Branches.{adopt_next, adopt_done, adopt_begins}
 use Rattle.narrow.proofs.adopt.Goals as goal
 
 pub loop-i-init : goal.loop-i-init

@@ -1,6 +1,4 @@
 -- `narrow::adopt_survivors` meets its contract. Assumes nothing.
-use borrow.Author.Rules.{rules}
-use Rattle.narrow.specs.Narrowing.{adopt}
 use Rattle.narrow.proofs.Branches.{adopts, none_left}
 use Rattle.narrow.proofs.adopt_survivors.Goals as goal
 

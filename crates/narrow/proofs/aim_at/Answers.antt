@@ -1,5 +1,4 @@
 -- `narrow::aim_at` meets its contract. Assumes nothing.
-use borrow.Author.Rules.{rules}
 use mathlib.Core.Path.{sym, ◌∙◌}
 use Rattle.narrow.specs.Aiming.{aim_at}
 use Rattle.narrow.proofs.aim_at.Goals as goal

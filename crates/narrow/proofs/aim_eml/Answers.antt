@@ -1,6 +1,4 @@
 -- `narrow::aim_eml` meets its contract. Assumes nothing.
-use borrow.Author.Rules.{rules}
-use borrow.Author.Tests.{not-true, not-false}
 use mathlib.Core.Path.{◌≡◌, sym, ◌∙◌}
 use Rattle.number.specs.Notation.{if◌then◌else◌}
 use Rattle.narrow.specs.declared.Values.TheVariants.{Within}

@@ -1,5 +1,4 @@
 -- `narrow::ask` meets its contract. Assumes nothing.
-use borrow.Author.Rules.{rules}
 use mathlib.Core.Path.{sym}
 use Rattle.number.specs.Notation.{if◌then◌else◌}
 use Rattle.narrow.specs.Narrowing.{ask_of}

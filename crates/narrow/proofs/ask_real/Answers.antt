@@ -1,5 +1,4 @@
 -- `narrow::ask_real` meets its contract. Assumes nothing.
-use borrow.Author.Rules.{rules}
 use mathlib.Core.Path.{sym, ◌∙◌}
 use Rattle.narrow.proofs.Asking.{out_empty, left_empty, right_empty, asked}
 use Rattle.narrow.proofs.ask_real.Goals as goal

@@ -1,5 +1,4 @@
 -- `narrow::demand_of` meets its contract. Assumes nothing.
-use borrow.Author.Rules.{rules}
 use mathlib.Core.Path.{sym, ◌∙◌}
 use Rattle.narrow.specs.Narrowing.{demand}
 use Rattle.narrow.proofs.demand_of.Goals as goal

@@ -1,9 +1,7 @@
 -- `narrow::eml_interval` meets its contract. Assumes nothing.
-use borrow.Author.Rules.{rules}
 use mathlib.Core.Path.{sym}
 use Rattle.number.specs.Notation.{if◌then◌else◌}
 use Rattle.number.specs.Literals.{infinite, minus_infinite}
-use Rattle.interval.specs.Interval.{exp, ln, minus}
 use Rattle.narrow.specs.Narrowing.{eml_interval}
 use Rattle.narrow.proofs.eml_interval.Goals as goal
 

@@ -1,8 +1,6 @@
 -- `narrow::fixed_at` meets its contract. Assumes nothing.
-use borrow.Author.Rules.{rules}
 use mathlib.Core.Path.{sym, ◌∙◌}
 use Rattle.number.specs.Notation.{if◌then◌else◌}
-use Rattle.interval.specs.Interval.{contains}
 use Rattle.narrow.specs.Narrowing.{fixed_at}
 use Rattle.narrow.proofs.fixed_at.Goals as goal
 

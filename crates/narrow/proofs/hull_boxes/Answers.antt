@@ -1,11 +1,9 @@
 -- `narrow::hull_boxes` meets its contract. Assumes nothing.
 use mathlib.Core.Path.{◌≡◌, refl}
-use Prim.Native.Nat.{◌-◌}
 use native.Mathlib.Omega.{arith}
 use borrow.Author.Rules.{rules}
 use lib.ListN.{length}
-use Rattle.interval.specs.Interval.{hull}
-use Rattle.narrow.proofs.Branches.{Joining, hull_next, hull_done}
+use Rattle.narrow.proofs.Branches.{hull_next, hull_done}
 use Rattle.narrow.proofs.hull_boxes.Goals as goal
 
 pub loop-i-init : goal.loop-i-init

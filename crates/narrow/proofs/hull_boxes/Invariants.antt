@@ -1,11 +1,6 @@
 -- What each turn of the loop keeps, and what falls.
-use mathlib.Core.Path.{◌≡◌, refl}
 use Prim.Native.Nat.{◌-◌}
-use native.Mathlib.Omega.{arith}
-use borrow.Author.Rules.{rules}
-use lib.ListN.{length}
-use Rattle.interval.specs.Interval.{hull}
-use Rattle.narrow.proofs.Branches.{Joining, hull_next, hull_done}
+use Rattle.narrow.proofs.Branches.{Joining}
 use Rattle.narrow.proofs.hull_boxes.Given as goal
 
 abbrev pub invariant-loop-i : goal.invariant-loop-i

@@ -1,9 +1,7 @@
 -- `narrow::left_of` meets its contract. Assumes nothing.
-use borrow.Author.Rules.{rules}
 use mathlib.Core.Path.{sym}
 use Rattle.number.specs.Notation.{if◌then◌else◌}
 use Rattle.number.specs.Literals.{zero_is}
-use Rattle.interval.specs.Interval.{intersect}
 use Rattle.narrow.specs.Narrowing.{left_of}
 use Rattle.narrow.proofs.left_of.Goals as goal
 

@@ -1,5 +1,4 @@
 -- `narrow::narrow_atom` meets its contract. Assumes nothing.
-use borrow.Author.Rules.{rules}
 use mathlib.Core.Path.{refl, sym, ◌∙◌}
 use Rattle.tree.specs.NodeLaws.{at_left, at_right, tree_is}
 use Rattle.narrow.proofs.Atoms.{atom_eml}

@@ -3,8 +3,6 @@ use Prim.Native.Nat.{◌≤◌}
 use mathlib.Core.Path.{refl, sym, ap, ◌∙◌}
 use mathlib.Core.List.{List}
 use native.Mathlib.Omega.{arith}
-use borrow.Author.Rules.{length_unmapped}
-use lib.Ieee.{Float}
 use lib.ListN.{length}
 use lib.Seq.{length-take-le}
 use Rattle.interval.specs.declared.Interval.{Interval}

@@ -1,5 +1,4 @@
 -- `narrow::narrow_other` meets its contract. Assumes nothing.
-use borrow.Author.Rules.{rules}
 use mathlib.Core.Path.{sym, ◌∙◌}
 use Rattle.narrow.proofs.Atoms.{atom_unknown, atom_empty, atom_stopped, atom_out, atom_nudged}
 use Rattle.narrow.proofs.narrow_other.Goals as goal

@@ -1,9 +1,7 @@
 -- `narrow::narrow_var` meets its contract. Assumes nothing.
-use borrow.Author.Rules.{rules}
 use mathlib.Core.Path.{sym, ◌∙◌}
 use native.Mathlib.Omega.{arith}
 use lib.Seq.{set_out}
-use Rattle.interval.specs.Interval.{intersect, moves}
 use Rattle.interval.specs.Boxes.{intervals}
 use Rattle.interval.specs.BoxLaws.{intervals_short, intervals_set}
 use Rattle.narrow.proofs.Vars.{var_empty, var_stays, var_moves}

@@ -1,5 +1,4 @@
 -- `narrow::nudge` meets its contract. Assumes nothing.
-use borrow.Author.Rules.{rules}
 use mathlib.Core.Path.{sym, ◌∙◌}
 use Rattle.tree.specs.NodeLaws.{tree_one, tree_const, tree_var, record_there, tree_is}
 use Rattle.narrow.specs.Narrowing.{nudge_tree}

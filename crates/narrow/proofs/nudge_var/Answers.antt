@@ -1,5 +1,4 @@
 -- `narrow::nudge_var` meets its contract. Assumes nothing.
-use borrow.Author.Rules.{rules}
 use Rattle.narrow.proofs.Atoms.{beyond, nudged_up, nudged_down, not_nudged}
 use Rattle.narrow.proofs.nudge_var.Goals as goal
 

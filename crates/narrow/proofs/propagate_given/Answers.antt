@@ -1,5 +1,4 @@
 -- `narrow::propagate_given` meets its contract. Assumes nothing.
-use borrow.Author.Rules.{rules}
 use mathlib.Core.Path.{refl, sym, ◌∙◌}
 use native.Mathlib.Omega.{arith}
 use Rattle.file.specs.FileLaws.{some_given, last_given}

@@ -1,10 +1,7 @@
 -- `narrow::propagate_in_mode` meets its contract. Assumes nothing.
 use mathlib.Core.Path.{sym, ◌∙◌}
 use native.Mathlib.Omega.{arith}
-use borrow.Author.Rules.{rules}
-use Rattle.constraint.specs.Records.{constraint_at}
-use Rattle.narrow.specs.Modes.{in_mode}
-use Rattle.narrow.proofs.Passes.{Going, begins, no_more, stays, changes}
+use Rattle.narrow.proofs.Passes.{begins, no_more, stays, changes}
 use Rattle.narrow.proofs.propagate_in_mode.Goals as goal
 
 pub propagate_once-result-requires : goal.propagate_once-result-requires

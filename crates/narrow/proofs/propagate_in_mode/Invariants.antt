@@ -1,10 +1,7 @@
 -- What each turn of the loop keeps, and what falls.
-use mathlib.Core.Path.{sym, ◌∙◌}
-use native.Mathlib.Omega.{arith}
-use borrow.Author.Rules.{rules}
 use Rattle.constraint.specs.Records.{constraint_at}
 use Rattle.narrow.specs.Modes.{in_mode}
-use Rattle.narrow.proofs.Passes.{Going, begins, no_more, stays, changes}
+use Rattle.narrow.proofs.Passes.{Going}
 use Rattle.narrow.proofs.propagate_in_mode.Given as goal
 
 abbrev pub invariant-loop-left : goal.invariant-loop-left

@@ -1,5 +1,4 @@
 -- `narrow::step_of` meets its contract. Assumes nothing.
-use borrow.Author.Rules.{rules}
 use mathlib.Core.Path.{sym}
 use Rattle.narrow.specs.Modes.{step_of}
 use Rattle.narrow.proofs.step_of.Goals as goal

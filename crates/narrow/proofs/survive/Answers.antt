@@ -1,5 +1,4 @@
 -- `narrow::survive` meets its contract. Assumes nothing.
-use borrow.Author.Rules.{rules}
 use mathlib.Core.Path.{refl, sym, ap, ◌∙◌}
 use mathlib.Core.Option.{some}
 use Rattle.narrow.proofs.Branches.{branch_lost, branch_first, branch_joins}

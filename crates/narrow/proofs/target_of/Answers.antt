@@ -1,5 +1,4 @@
 -- `narrow::target_of` meets its contract. Assumes nothing.
-use borrow.Author.Rules.{rules}
 use mathlib.Core.Path.{sym}
 use Rattle.number.specs.Notation.{if◌then◌else◌}
 use Rattle.number.specs.Literals.{zero_is}

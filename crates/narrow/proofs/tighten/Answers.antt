@@ -1,7 +1,5 @@
 -- `narrow::tighten` meets its contract. Assumes nothing.
-use borrow.Author.Rules.{rules}
 use mathlib.Core.Path.{sym, ◌∙◌}
-use Rattle.interval.specs.Interval.{intersect, moves}
 use Rattle.narrow.proofs.Branches.{box_empty, box_moves, box_stays}
 use Rattle.narrow.proofs.tighten.Goals as goal
 

@@ -1,8 +1,6 @@
 -- `normal::negate`, `normal::negate_all`, `normal::to_nnf` and `normal::to_nnf_all` meet their contracts: the record's number falls at each call. Assumes nothing.
-use Prim.Native.Nat.{ℕ, ◌+◌, ◌*◌}
 use mathlib.Core.Path.{refl, sym, ap, ◌∙◌}
 use native.Mathlib.Omega.{arith}
-use borrow.Author.Rules.{rules}
 use lib.ListN.{length}
 use Rattle.constraint.specs.PutLaws.{puts_none, puts_is}
 use Rattle.constraint.specs.RecordLaws.{record_there, some, start_falls, before_last, last}

@@ -1,5 +1,5 @@
 -- What falls at each call.
-use Prim.Native.Nat.{◌+◌, ◌*◌, ◌-◌}
+use Prim.Native.Nat.{◌+◌, ◌*◌}
 use Rattle.normal.proofs.+negate_negate_all_to_nnf_to_nnf_all.Given as goal
 
 abbrev pub decreases-negate : goal.decreases-negate

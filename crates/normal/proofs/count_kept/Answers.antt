@@ -1,9 +1,7 @@
 -- `normal::count_kept` meets its contract. Assumes nothing.
-use mathlib.Core.Path.{◌≡◌, refl, ap, ◌∙◌}
-use Prim.Native.Nat.{◌-◌, ◌≤◌}
+use mathlib.Core.Path.{refl, ap, ◌∙◌}
 use native.Mathlib.Omega.{arith}
 use native.Mathlib.Nat.{le_antisymm}
-use borrow.Author.Rules.{rules}
 use Rattle.normal.specs.Given.{count_kept}
 use Rattle.normal.proofs.Calls.{kept_next}
 use Rattle.normal.proofs.count_kept.Goals as goal

@@ -1,11 +1,7 @@
 -- What each turn of the loop keeps, and what falls.
-use mathlib.Core.Path.{◌≡◌, refl, ap, ◌∙◌}
+use mathlib.Core.Path.{◌≡◌}
 use Prim.Native.Nat.{◌-◌, ◌≤◌}
-use native.Mathlib.Omega.{arith}
-use native.Mathlib.Nat.{le_antisymm}
-use borrow.Author.Rules.{rules}
 use Rattle.normal.specs.Given.{count_kept}
-use Rattle.normal.proofs.Calls.{kept_next}
 use Rattle.normal.proofs.count_kept.Given as goal
 
 abbrev pub invariant-loop-k : goal.invariant-loop-k

@@ -1,6 +1,5 @@
 -- `normal::dual` meets its contract: each arm is the definition's case. Assumes nothing.
 use mathlib.Core.Path.{sym, ap}
-use borrow.Author.Rules.{rules}
 use Rattle.normal.specs.Written.{dual_of}
 use Rattle.normal.proofs.dual.Goals as goal
 

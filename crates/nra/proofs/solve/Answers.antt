@@ -1,13 +1,11 @@
 -- `nra::solve` meets its contract. Assumes nothing.
 use mathlib.Core.Path.{refl, sym, ap, ◌∙◌}
 use mathlib.Core.Bool.{not}
-use borrow.Author.Tests.{not-false}
 use native.Mathlib.Omega.{arith}
 use Rattle.interval.specs.BoxLaws.{as_many, few, boxes_paired, all_there}
 use Rattle.file.specs.FileLaws.{some_given, last_given, given_within}
 use Rattle.nra.proofs.Calling.{refused_given, refused_limit, refused_boxes, solved_given}
 use Rattle.nra.proofs.Tests.{limit_few}
-use borrow.Author.Rules.{rules}
 use Rattle.nra.proofs.solve.Goals as goal
 
 pub returns-then-first-ne0 : goal.returns-then-first-ne0

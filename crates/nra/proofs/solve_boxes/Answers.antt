@@ -4,7 +4,6 @@ use Rattle.nra.specs.Answers.{problem}
 use Rattle.nra.specs.Fits.{run_few}
 use Rattle.nra.proofs.Steps.{still_working}
 use Rattle.nra.proofs.Answering.{ran}
-use borrow.Author.Rules.{rules}
 use Rattle.nra.proofs.solve_boxes.Goals as goal
 
 pub run_to-last-requires : goal.run_to-last-requires

@@ -1,6 +1,5 @@
 -- `nra::solve_empty` meets its contract. Assumes nothing.
 use native.Mathlib.Omega.{arith}
-use borrow.Author.Rules.{rules}
 use lib.Ieee.{of_bits, of_int}
 use Rattle.number.specs.Literals.{infinite}
 use Rattle.interval.specs.Boxes.{padded}

@@ -1,7 +1,6 @@
 -- `nra::solve_file` meets its contract. Assumes nothing.
 use mathlib.Core.Path.{refl, sym, ◌∙◌}
 use native.Mathlib.Omega.{arith}
-use borrow.Author.Rules.{rules}
 use Rattle.point.specs.Room.{accepted_fits}
 use Rattle.file.specs.FileLaws.{is_laid, some_constraint, last_ready}
 use Rattle.nra.proofs.Calling.{refused_file, refused_later, solved_file}

@@ -8,7 +8,6 @@ use Rattle.nra.specs.Answers.{problem, solved_of}
 use Rattle.nra.specs.Fits.{empty_few}
 use Rattle.nra.proofs.Answering.{empty_solved, boxes_solved}
 use Rattle.nra.proofs.Tests.{no_room, is_room}
-use borrow.Author.Rules.{rules}
 use Rattle.nra.proofs.solve_in.Goals as goal
 
 pub returns-then-room-n : goal.returns-then-room-n

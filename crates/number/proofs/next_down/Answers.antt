@@ -1,5 +1,5 @@
 -- `next_down` is the negative of `next_up` of the negative, as the definition has it. Assumes nothing.
-use Rattle.std.proofs.Common.{ap, rules}
+use Rattle.std.proofs.Common.{ap}
 use lib.Ieee.{neg}
 use Rattle.number.specs.Next.{next_down}
 use Rattle.number.proofs.next_down.Goals as goal

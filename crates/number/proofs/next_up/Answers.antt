@@ -1,5 +1,5 @@
 -- `next_up` is `next_up`, test by test. Assumes nothing.
-use Rattle.std.proofs.Common.{◌≡◌, ◌+◌, ◌-◌, false, T, sym, ap, ◌∙◌, arith, rules}
+use Rattle.std.proofs.Common.{◌≡◌, ◌+◌, ◌-◌, false, T, sym, ap, ◌∙◌, arith}
 use lib.Ieee.{Float, binary64, lt, eq, ne, is_nan, neg, of_bits, to_bits, nan_bits}
 use Rattle.number.specs.Order.{naught, passed, failed, number_of, nan_test, above, number_neg}
 use Rattle.number.specs.Next.{next_up, next_up_nan, next_up_at_zero, next_up_positive, next_up_negative, next_up_inf, negative_bits, no_nan_bits, below_inf, is_inf}

@@ -1,6 +1,5 @@
 -- `point::check_constraint` meets its contract. Assumes nothing.
 use mathlib.Core.Path.{refl, sym, ap, ◌∙◌}
-use borrow.Author.Rules.{rules}
 use Rattle.record.specs.RefusalLaws.{is_refused, is_answered}
 use Rattle.file.specs.FileLaws.{some_given}
 use Rattle.point.specs.declared.CheckAnswer.{CheckAnswer}

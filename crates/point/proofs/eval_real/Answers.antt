@@ -1,6 +1,5 @@
 -- `point::eval_real` meets its contract. Assumes nothing.
 use mathlib.Core.Path.{sym, ◌∙◌}
-use borrow.Author.Rules.{rules}
 use Rattle.record.specs.RefusalLaws.{is_refused}
 use Rattle.point.specs.declared.EvalAnswer.{EvalAnswer}
 use Rattle.point.specs.Answer.{eval_answer}

@@ -1,6 +1,5 @@
 -- `point::eval_sized` meets its contract. Assumes nothing.
 use native.Mathlib.Omega.{arith}
-use borrow.Author.Rules.{rules}
 use Rattle.point.specs.Room.{accepted_fits}
 use Rattle.point.proofs.eval_sized.Goals as goal
 

@@ -1,5 +1,4 @@
 -- `point::eval_tested` meets its contract. Assumes nothing.
-use borrow.Author.Rules.{rules}
 use mathlib.Core.Path.{sym, ◌∙◌}
 use native.Mathlib.Omega.{arith}
 use Rattle.tree.specs.SizeLaws.{list_within}

@@ -1,7 +1,6 @@
 -- `point::given_tested` meets its contract. Assumes nothing.
 use mathlib.Core.Path.{sym, ◌∙◌}
 use native.Mathlib.Omega.{arith}
-use borrow.Author.Rules.{rules}
 use Rattle.file.specs.FileLaws.{given_within}
 use Rattle.point.proofs.Answers.{records_refused, over, few}
 use Rattle.point.proofs.given_tested.Goals as goal

@@ -1,6 +1,5 @@
 -- `record::read_f64` meets its contract. Assumes nothing.
 use mathlib.Core.Path.{◌∙◌, ap}
-use borrow.Author.Rules.{rules}
 use lib.Ieee.{binary64, of_bits}
 use Rattle.record.specs.Bytes.{f64_at}
 use Rattle.record.proofs.read_f64.Goals as goal

@@ -1,6 +1,5 @@
 -- `record::read_u32` meets its contract: the sum of four bytes fits a u32. Assumes nothing.
 use native.Mathlib.Omega.{arith}
-use borrow.Author.Rules.{rules}
 use Rattle.record.specs.Bytes.{u32_at}
 use Rattle.record.proofs.read_u32.Goals as goal
 

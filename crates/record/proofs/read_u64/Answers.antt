@@ -1,6 +1,5 @@
 -- `record::read_u64` meets its contract. Assumes nothing.
 use native.Mathlib.Omega.{arith}
-use borrow.Author.Rules.{rules}
 use Rattle.record.specs.Bytes.{u64_at}
 use Rattle.record.proofs.read_u64.Goals as goal
 

@@ -1,7 +1,6 @@
 -- `record::write_u32` meets its contract: its four stores are the definition's. Assumes nothing.
 use native.Mathlib.Omega.{arith}
 use native.Mathlib.Numerals.{add-one, add-two, add-three}
-use borrow.Author.Rules.{rules}
 use lib.ListN.{length-set}
 use Rattle.record.specs.Bytes.{u32_bytes}
 use Rattle.record.proofs.write_u32.Goals as goal

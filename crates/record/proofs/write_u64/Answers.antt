@@ -1,5 +1,4 @@
 -- `record::write_u64` meets its contract: two words, one after the other. Assumes nothing.
-use borrow.Author.Rules.{rules}
 use Rattle.record.specs.ByteLaws.{two_words}
 use Rattle.record.proofs.write_u64.Goals as goal
 

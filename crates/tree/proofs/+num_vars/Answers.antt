@@ -1,9 +1,8 @@
 -- `tree::num_vars` meets its contract: the node's number falls at each call. Assumes nothing.
-use Prim.Native.Nat.{ℕ, max}
+use Prim.Native.Nat.{max}
 use mathlib.Core.Path.{sym, ap, ap₂, ◌∙◌}
 use native.Mathlib.Numerals.{add-one}
 use native.Mathlib.Omega.{arith}
-use borrow.Author.Rules.{rules}
 use Rattle.tree.specs.NodeLaws.{index_small, tree_one, tree_const, tree_var, record_there, at_left, at_right, tree_is}
 use Rattle.tree.specs.Tree.{tree_vars}
 use Rattle.tree.proofs.+num_vars.Goals as goal

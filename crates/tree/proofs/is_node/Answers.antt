@@ -3,7 +3,6 @@ use Prim.Native.Nat.{ℕ}
 use mathlib.Core.Path.{ap, ◌∙◌}
 use lib.Ieee.{binary64, of_bits}
 use lib.Ieee.Scale.{finite}
-use borrow.Author.Rules.{rules}
 use Rattle.record.specs.Bytes.{f64_at}
 use Rattle.tree.proofs.Tests.{node_is}
 use Rattle.tree.proofs.is_node.Goals as goal

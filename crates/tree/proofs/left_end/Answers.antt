@@ -1,5 +1,4 @@
 -- `tree::left_end` meets its contract. Assumes nothing.
-use borrow.Author.Rules.{rules}
 use borrow.Author.Tests.{eq-eqb, ne_eqb}
 use Rattle.number.specs.Notation.{if◌then◌else◌}
 use Rattle.tree.proofs.left_end.Goals as goal

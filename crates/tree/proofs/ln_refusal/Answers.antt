@@ -1,7 +1,6 @@
 -- `tree::ln_refusal` meets its contract: the result's size and depth are those of its tree. Assumes nothing.
 use mathlib.Core.Path.{sym, ◌∙◌}
 use native.Mathlib.Omega.{arith}
-use borrow.Author.Rules.{rules}
 use Rattle.tree.proofs.Append.{operands_known, ln_early, ln_late}
 use Rattle.tree.proofs.ln_refusal.Goals as goal
 

@@ -1,5 +1,4 @@
 -- `tree::measure` meets its contract: an Eml goes by its children's, any other node is 1 and 1. Assumes nothing.
-use borrow.Author.Rules.{rules}
 use mathlib.Core.Path.{sym, ap, ◌∙◌, subst}
 use Rattle.tree.specs.Code.{Known, size_by, depth_by}
 use Rattle.tree.specs.declared.Node.{Node}

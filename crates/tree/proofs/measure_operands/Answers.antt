@@ -1,11 +1,9 @@
 -- `tree::measure_operands` meets its contract: each way out is the next refusal in order. Assumes nothing.
-use borrow.Author.Rules.{rules}
 use Prim.Native.Nat.{ℕ, ◌≤◌, ◌<◌}
 use mathlib.Core.Path.{◌≡◌, sym, ◌∙◌}
 use mathlib.Core.Bool.{true}
 use mathlib.Core.List.{List}
 use native.Mathlib.Omega.{arith}
-use borrow.Author.Tests.{not-true, not-false}
 use lib.ListN.{length, get_or}
 use Rattle.tree.specs.NodeLaws.{fit_parts}
 use Rattle.tree.specs.Nodes.{tree_at, node_refusal, nodes_refusal, nodes_fit}

@@ -1,7 +1,6 @@
 -- `tree::node_in` meets its contract: each arm is the definition's case of that kind. Assumes nothing.
 use mathlib.Core.Path.{◌∙◌, sym}
 use borrow.Author.Tests.{ne_eqb}
-use borrow.Author.Rules.{rules}
 use Rattle.number.specs.Notation.{if◌then◌else◌}
 use Rattle.tree.specs.Nodes.{node_at}
 use Rattle.tree.proofs.node_in.Goals as goal

@@ -1,6 +1,5 @@
 -- `tree::nodes_fit` meets its contract. Assumes nothing.
 use borrow.Author.Tests.{le-leb, lt-leb}
-use borrow.Author.Rules.{rules}
 use Rattle.tree.specs.Nodes.{nodes_fit}
 use Rattle.tree.proofs.nodes_fit.Goals as goal
 

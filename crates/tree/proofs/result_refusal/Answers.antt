@@ -1,7 +1,6 @@
 -- `tree::result_refusal` meets its contract. Assumes nothing.
 use mathlib.Core.Path.{◌∙◌, sym}
 use borrow.Author.Tests.{le-leb, lt-leb}
-use borrow.Author.Rules.{rules}
 use Rattle.tree.specs.Code.{result_refusal}
 use Rattle.tree.proofs.result_refusal.Goals as goal
 

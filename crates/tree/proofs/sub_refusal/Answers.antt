@@ -2,7 +2,6 @@
 use Prim.Native.Nat.{ℕ, ◌+◌, max}
 use mathlib.Core.Path.{sym, ap₂, ◌∙◌}
 use native.Mathlib.Omega.{arith}
-use borrow.Author.Rules.{rules}
 use Rattle.tree.proofs.Append.{operands_known, sub_early, sub_late}
 use Rattle.tree.proofs.sub_refusal.Goals as goal
 

@@ -1,16 +1,14 @@
 -- `tree::test_nodes` meets its contract: the arrays hold the sizes and the depths of the nodes passed, and none of these is refused. Assumes nothing.
-use Prim.Native.Nat.{◌≤◌, ◌-◌}
 use mathlib.Core.Path.{◌≡◌, refl, sym, ap, ◌∙◌, subst}
 use mathlib.Core.Bool.{true}
 use native.Mathlib.Omega.{arith}
-use borrow.Author.Tests.{not-true, not-false}
-use lib.ListN.{length, length-set}
+use lib.ListN.{length-set}
 use Rattle.tree.specs.Tree.{size, depth}
 use Rattle.record.specs.Refusal.{first, filled}
 use Rattle.tree.specs.Nodes.{tree_at, is_node}
 use Rattle.tree.specs.Code.{size_by, depth_by, Known, largest}
 use Rattle.tree.specs.declared.Node.{Node}
-use Rattle.tree.proofs.Nodes.{Passed, finished, three, four_size, four_depth, next, asked, told}
+use Rattle.tree.proofs.Nodes.{finished, three, four_size, four_depth, next, asked, told}
 use Rattle.tree.proofs.test_nodes.Goals as goal
 use Rattle.tree.proofs.test_nodes.Goals.{After-measure-m}
 

@@ -1,7 +1,5 @@
 -- `tree::test_sizes` meets its contract. Assumes nothing.
-use borrow.Author.Rules.{rules}
 use mathlib.Core.Path.{sym, ◌∙◌}
-use borrow.Author.Tests.{not-true, not-false}
 use Rattle.tree.specs.NodeLaws.{fit_parts}
 use Rattle.tree.proofs.Nodes.{no_fit, fitting}
 use Rattle.tree.proofs.test_sizes.Goals as goal

@@ -2,7 +2,6 @@
 use Prim.Native.Nat.{◌+◌}
 use mathlib.Core.List.{[], ◌∷◌}
 use mathlib.Core.Path.{refl}
-use borrow.Author.Rules.{rules}
 use Rattle.tree.specs.EncodingLaws.{one_node, then_node}
 use Rattle.tree.specs.declared.Node.{Node}
 use Rattle.tree.proofs.write_ln.Goals as goal

@@ -1,5 +1,4 @@
 -- `tree::write_one` meets its contract. Assumes nothing.
-use borrow.Author.Rules.{rules}
 use Rattle.tree.specs.Encoding.{node_bytes}
 use Rattle.tree.proofs.write_one.Goals as goal
 

@@ -1,5 +1,4 @@
 -- `tree::write_record` meets its contract: four words, one after the other. Assumes nothing.
-use borrow.Author.Rules.{rules}
 use Rattle.record.specs.ByteLaws.{four_words}
 use Rattle.tree.proofs.write_record.Goals as goal
 

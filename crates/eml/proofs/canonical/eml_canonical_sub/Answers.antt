@@ -1,5 +1,4 @@
 -- `eml_canonical_sub` meets its contract. Assumes nothing.
-use borrow.Author.Rules.{rules}
 use Rattle.eml.proofs.canonical.eml_canonical_sub.Goals as goal
 
 pub returns : goal.returns

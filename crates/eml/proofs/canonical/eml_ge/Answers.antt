@@ -1,5 +1,4 @@
 -- `eml_ge` meets its contract. Assumes nothing.
-use borrow.Author.Rules.{rules}
 use Rattle.eml.proofs.canonical.eml_ge.Goals as goal
 
 pub returns : goal.returns

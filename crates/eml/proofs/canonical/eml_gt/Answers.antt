@@ -1,5 +1,4 @@
 -- `eml_gt` meets its contract. Assumes nothing.
-use borrow.Author.Rules.{rules}
 use Rattle.eml.proofs.canonical.eml_gt.Goals as goal
 
 pub returns : goal.returns

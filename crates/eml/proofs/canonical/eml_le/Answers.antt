@@ -1,5 +1,4 @@
 -- `eml_le` meets its contract. Assumes nothing.
-use borrow.Author.Rules.{rules}
 use Rattle.eml.proofs.canonical.eml_le.Goals as goal
 
 pub returns : goal.returns

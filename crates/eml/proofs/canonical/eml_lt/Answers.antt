@@ -1,5 +1,4 @@
 -- `eml_lt` meets its contract. Assumes nothing.
-use borrow.Author.Rules.{rules}
 use Rattle.eml.proofs.canonical.eml_lt.Goals as goal
 
 pub returns : goal.returns

@@ -1,5 +1,4 @@
 -- `eml_decide_exists` meets its contract. Assumes nothing.
-use borrow.Author.Rules.{rules}
 use Rattle.decide.specs.Decisions.{exists_given_values}
 use Rattle.eml.proofs.deciding.eml_decide_exists.Goals as goal
 

@@ -1,5 +1,4 @@
 -- `eml_decide_forall` meets its contract. Assumes nothing.
-use borrow.Author.Rules.{rules}
 use Rattle.decide.specs.Decisions.{forall_given_values}
 use Rattle.eml.proofs.deciding.eml_decide_forall.Goals as goal
 

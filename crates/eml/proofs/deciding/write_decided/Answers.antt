@@ -1,8 +1,6 @@
 -- `write_decided` meets its contract. Assumes nothing.
 use Prim.Native.Nat.{◌≤◌}
 use native.Mathlib.Omega.{arith}
-use borrow.Author.Rules.{rules, length_unmapped}
-use lib.Ieee.{Float}
 use lib.ListN.{length}
 use Rattle.eml.specs.PlacesLaws.{stays, writes}
 use Rattle.eml.proofs.deciding.write_decided.Goals as goal

@@ -1,5 +1,4 @@
 -- `eml_propagate` meets its contract. Assumes nothing.
-use borrow.Author.Rules.{rules}
 use Rattle.eml.proofs.narrowing.eml_propagate.Goals as goal
 
 pub returns : goal.returns

@@ -1,5 +1,4 @@
 -- `write_propagated` meets its contract. Assumes nothing.
-use borrow.Author.Rules.{rules}
 use Rattle.eml.proofs.narrowing.write_propagated.Goals as goal
 
 pub returns-in-Refused : goal.returns-in-Refused

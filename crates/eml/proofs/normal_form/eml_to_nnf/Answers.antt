@@ -1,5 +1,4 @@
 -- `eml_to_nnf` meets its contract. Assumes nothing.
-use borrow.Author.Rules.{rules}
 use Rattle.eml.proofs.normal_form.eml_to_nnf.Goals as goal
 
 pub returns-in-Refused : goal.returns-in-Refused

@@ -1,5 +1,4 @@
 -- `eml_check` meets its contract. Assumes nothing.
-use borrow.Author.Rules.{rules}
 use Rattle.eml.proofs.points.eml_check.Goals as goal
 
 pub returns-in-Refused : goal.returns-in-Refused

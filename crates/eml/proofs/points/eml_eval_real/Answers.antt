@@ -1,5 +1,4 @@
 -- `eml_eval_real` meets its contract. Assumes nothing.
-use borrow.Author.Rules.{rules}
 use Rattle.eml.proofs.points.eml_eval_real.Goals as goal
 
 pub returns-in-Refused : goal.returns-in-Refused

@@ -1,5 +1,4 @@
 -- `eml_residual` meets its contract. Assumes nothing.
-use borrow.Author.Rules.{rules}
 use Rattle.eml.proofs.points.eml_residual.Goals as goal
 
 pub returns-in-Refused : goal.returns-in-Refused

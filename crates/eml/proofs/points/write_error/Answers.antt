@@ -1,5 +1,4 @@
 -- `write_error` meets its contract. Assumes nothing.
-use borrow.Author.Rules.{rules}
 use Rattle.eml.proofs.points.write_error.Goals as goal
 
 pub returns-in-VarOutOfBounds : goal.returns-in-VarOutOfBounds

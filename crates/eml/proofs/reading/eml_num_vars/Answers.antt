@@ -1,5 +1,4 @@
 -- `eml_num_vars` meets its contract. Assumes nothing.
-use borrow.Author.Rules.{rules}
 use Rattle.eml.proofs.reading.eml_num_vars.Goals as goal
 
 pub returns-in-Refused : goal.returns-in-Refused

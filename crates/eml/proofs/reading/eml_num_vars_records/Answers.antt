@@ -1,5 +1,4 @@
 -- `eml_num_vars_records` meets its contract. Assumes nothing.
-use borrow.Author.Rules.{rules}
 use Rattle.eml.proofs.reading.eml_num_vars_records.Goals as goal
 
 pub returns-in-Refused : goal.returns-in-Refused

@@ -1,5 +1,4 @@
 -- `eml_solve` meets its contract. Assumes nothing.
-use borrow.Author.Rules.{rules}
 use Rattle.nra.specs.Fits.{given_fits}
 use Rattle.eml.proofs.solving.eml_solve.Goals as goal
 

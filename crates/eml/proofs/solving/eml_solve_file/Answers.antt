@@ -1,5 +1,4 @@
 -- `eml_solve_file` meets its contract. Assumes nothing.
-use borrow.Author.Rules.{rules}
 use Rattle.nra.specs.Fits.{file_fits}
 use Rattle.eml.proofs.solving.eml_solve_file.Goals as goal
 

@@ -1,5 +1,4 @@
 -- `write_solved` meets its contract. Assumes nothing.
-use borrow.Author.Rules.{rules}
 use Rattle.eml.specs.PlacesLaws.{stays, writes}
 use Rattle.eml.proofs.solving.write_solved.Goals as goal
 

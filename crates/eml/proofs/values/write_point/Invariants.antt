@@ -1,9 +1,7 @@
 -- What each turn of the loop keeps, and what falls.
-use Prim.Native.Nat.{ℕ, ◌-◌, ◌≤◌}
-use mathlib.Core.Path.{◌≡◌, refl, ap, ◌∙◌}
-use native.Mathlib.Omega.{arith}
-use lib.Seq.{paste, paste-zero}
-use Rattle.interval.specs.PlacesLaws.{copied_length, copied_next}
+use Prim.Native.Nat.{◌-◌, ◌≤◌}
+use mathlib.Core.Path.{◌≡◌}
+use lib.Seq.{paste}
 use Rattle.eml.proofs.values.write_point.Given as goal
 
 abbrev pub invariant-loop-i : goal.invariant-loop-i

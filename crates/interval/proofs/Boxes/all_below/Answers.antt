@@ -1,12 +1,11 @@
 -- `interval::Boxes::all_below` meets its contract. Assumes nothing.
-use Prim.Native.Nat.{◌-◌}
 use mathlib.Core.Path.{◌≡◌, refl, sym, ap, ◌∙◌}
 use native.Mathlib.Omega.{arith}
 use borrow.Author.Rules.{rules}
 use lib.Ieee.{Float, lt}
-use lib.ListN.{length, drop}
+use lib.ListN.{length}
 use Rattle.interval.specs.Interval.{width}
-use Rattle.interval.specs.Boxes.{boxes_of, all_below}
+use Rattle.interval.specs.Boxes.{boxes_of}
 use Rattle.interval.specs.BoxLaws.{boxes_length, boxes_at}
 use Rattle.interval.proofs.Loops.{below_next, below_not, below_done}
 use Rattle.interval.proofs.Boxes.all_below.Goals as goal

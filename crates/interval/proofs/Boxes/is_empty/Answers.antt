@@ -1,11 +1,9 @@
 -- `interval::Boxes::is_empty` meets its contract. Assumes nothing.
 use mathlib.Core.Path.{◌≡◌, refl, sym, ap, ◌∙◌}
-use Prim.Native.Nat.{◌-◌}
-use native.Mathlib.Omega.{arith}
 use borrow.Author.Rules.{rules}
-use lib.ListN.{length, drop}
+use lib.ListN.{length}
 use Rattle.interval.specs.Interval.{is_empty}
-use Rattle.interval.specs.Boxes.{boxes_of, any_empty}
+use Rattle.interval.specs.Boxes.{boxes_of}
 use Rattle.interval.proofs.Loops.{empty_here, empty_later, empty_none}
 use Rattle.interval.proofs.Boxes.is_empty.Goals as goal
 

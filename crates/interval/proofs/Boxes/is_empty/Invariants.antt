@@ -1,12 +1,8 @@
 -- What each turn of the loop keeps, and what falls.
-use mathlib.Core.Path.{◌≡◌, refl, sym, ap, ◌∙◌}
+use mathlib.Core.Path.{◌≡◌}
 use Prim.Native.Nat.{◌-◌}
-use native.Mathlib.Omega.{arith}
-use borrow.Author.Rules.{rules}
-use lib.ListN.{length, drop}
-use Rattle.interval.specs.Interval.{is_empty}
+use lib.ListN.{drop}
 use Rattle.interval.specs.Boxes.{boxes_of, any_empty}
-use Rattle.interval.proofs.Loops.{empty_here, empty_later, empty_none}
 use Rattle.interval.proofs.Boxes.is_empty.Given as goal
 
 abbrev pub invariant-loop-i : goal.invariant-loop-i

@@ -1,14 +1,11 @@
 -- `interval::Boxes::midpoints` meets its contract. Assumes nothing.
-use Prim.Native.Nat.{◌-◌, ◌≤◌}
 use mathlib.Core.Path.{◌≡◌, refl, ap, ◌∙◌}
-use mathlib.Core.List.{◌++◌}
 use native.Mathlib.Omega.{arith}
 use borrow.Author.Rules.{rules}
 use lib.Ieee.{of_int, of_bits}
-use lib.ListN.{length, take, replicate}
-use Rattle.number.specs.Notation.{whole}
+use lib.ListN.{length}
 use Rattle.interval.specs.Interval.{midpoint}
-use Rattle.interval.specs.Boxes.{boxes_of, midpoints}
+use Rattle.interval.specs.Boxes.{boxes_of}
 use Rattle.interval.specs.BoxLaws.{boxes_length, boxes_at, midpoints_length}
 use Rattle.interval.proofs.Loops.{midpoints_next, midpoints_done}
 use Rattle.interval.proofs.Boxes.midpoints.Goals as goal

@@ -1,6 +1,5 @@
 -- `interval::Boxes::new` meets its contract. Assumes nothing.
 use mathlib.Core.Path.{refl}
-use borrow.Author.Rules.{rules}
 use Rattle.interval.specs.Boxes.{boxes_of}
 use Rattle.interval.specs.PlacesLaws.{starting_written}
 use Rattle.interval.proofs.Boxes.new.Goals as goal

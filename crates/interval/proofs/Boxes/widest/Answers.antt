@@ -1,12 +1,11 @@
 -- `interval::Boxes::widest` meets its contract. Assumes nothing.
-use Prim.Native.Nat.{◌-◌, ◌<◌}
 use mathlib.Core.Path.{◌≡◌, sym, ap, ◌∙◌}
 use native.Mathlib.Omega.{arith}
 use borrow.Author.Rules.{rules}
 use lib.Ieee.{Float, lt}
-use lib.ListN.{length, drop}
+use lib.ListN.{length}
 use Rattle.interval.specs.Interval.{width}
-use Rattle.interval.specs.Boxes.{boxes_of, widest_from, widest}
+use Rattle.interval.specs.Boxes.{boxes_of}
 use Rattle.interval.specs.BoxLaws.{boxes_length, boxes_at}
 use Rattle.interval.proofs.Loops.{widest_start, widest_keep, widest_take, widest_done}
 use Rattle.interval.proofs.Boxes.widest.Goals as goal

@@ -1,14 +1,8 @@
 -- What each turn of the loop keeps, and what falls.
 use Prim.Native.Nat.{◌-◌, ◌<◌}
-use mathlib.Core.Path.{◌≡◌, sym, ap, ◌∙◌}
-use native.Mathlib.Omega.{arith}
-use borrow.Author.Rules.{rules}
-use lib.Ieee.{Float, lt}
-use lib.ListN.{length, drop}
-use Rattle.interval.specs.Interval.{width}
+use mathlib.Core.Path.{◌≡◌}
+use lib.ListN.{drop}
 use Rattle.interval.specs.Boxes.{boxes_of, widest_from, widest}
-use Rattle.interval.specs.BoxLaws.{boxes_length, boxes_at}
-use Rattle.interval.proofs.Loops.{widest_start, widest_keep, widest_take, widest_done}
 use Rattle.interval.proofs.Boxes.widest.Given as goal
 
 abbrev pub invariant-loop-i : goal.invariant-loop-i

@@ -1,5 +1,4 @@
 -- `interval::Interval::exp` meets its contract. Assumes nothing.
-use borrow.Author.Rules.{rules}
 use mathlib.Core.Path.{◌∙◌}
 use Rattle.interval.specs.Interval.{exp}
 use Rattle.interval.proofs.Points.{point_exp}

@@ -1,5 +1,4 @@
 -- `interval::Interval::has_ln` meets its contract. Assumes nothing.
-use borrow.Author.Rules.{rules}
 use Rattle.number.specs.Literals.{zero_is}
 use Rattle.interval.specs.Interval.{has_ln}
 use Rattle.interval.proofs.Interval.has_ln.Goals as goal

@@ -1,5 +1,4 @@
 -- `interval::Interval::hull` meets its contract. Assumes nothing.
-use borrow.Author.Rules.{rules}
 use Rattle.interval.specs.Interval.{hull}
 use Rattle.interval.proofs.Interval.hull.Goals as goal
 

@@ -1,5 +1,4 @@
 -- `interval::Interval::intersect` meets its contract. Assumes nothing.
-use borrow.Author.Rules.{rules}
 use Rattle.interval.specs.Interval.{intersect}
 use Rattle.interval.proofs.Interval.intersect.Goals as goal
 

@@ -1,7 +1,5 @@
 -- `interval::Interval::ln` meets its contract. Assumes nothing.
-use borrow.Author.Rules.{rules}
 use mathlib.Core.Path.{sym, ◌∙◌}
-use borrow.Author.Tests.{not-true, not-false}
 use Rattle.number.specs.Literals.{infinite, minus_infinite}
 use Rattle.number.specs.Notation.{if◌then◌else◌}
 use Rattle.interval.specs.Interval.{ln}

@@ -1,5 +1,4 @@
 -- `interval::Interval::minus` meets its contract. Assumes nothing.
-use borrow.Author.Rules.{rules}
 use Rattle.interval.specs.Interval.{minus}
 use Rattle.interval.proofs.Interval.minus.Goals as goal
 

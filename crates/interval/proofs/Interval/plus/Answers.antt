@@ -1,5 +1,4 @@
 -- `interval::Interval::plus` meets its contract. Assumes nothing.
-use borrow.Author.Rules.{rules}
 use Rattle.interval.specs.Interval.{plus}
 use Rattle.interval.proofs.Interval.plus.Goals as goal
 

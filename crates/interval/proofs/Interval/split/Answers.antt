@@ -1,5 +1,4 @@
 -- `interval::Interval::split` meets its contract. Assumes nothing.
-use borrow.Author.Rules.{rules}
 use Rattle.interval.specs.Interval.{split}
 use Rattle.interval.proofs.Interval.split.Goals as goal
 

@@ -5,7 +5,6 @@ use Rattle.number.specs.Literals.{infinite}
 use Rattle.nra.specs.Answers.{problem}
 use Rattle.nra.proofs.Halves.{middle_length, middle_distance}
 use Rattle.nra.proofs.Answering.{of_going, of_passed, of_conflict, of_tolerance}
-use borrow.Author.Rules.{rules}
 use Rattle.nra.proofs.answer.answer_of.Goals as goal
 
 pub slice_bounds-distance-end : goal.slice_bounds-distance-end

@@ -1,5 +1,4 @@
 -- `nra::answer::assigned` meets its contract. Assumes nothing.
-use borrow.Author.Rules.{rules}
 use lib.Ieee.{of_bits, of_int}
 use Rattle.nra.specs.Answers.{solved_of}
 use Rattle.nra.proofs.answer.assigned.Goals as goal

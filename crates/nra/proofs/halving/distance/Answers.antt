@@ -1,7 +1,6 @@
 -- `nra::halving::distance` meets its contract. Assumes nothing.
 use mathlib.Core.Path.{ap, ◌∙◌}
 use Rattle.number.specs.Sign.{abs_of}
-use borrow.Author.Rules.{rules}
 use Rattle.nra.proofs.halving.distance.Goals as goal
 
 pub returns : goal.returns

@@ -1,12 +1,10 @@
 -- `nra::halving::halved` meets its contract. Assumes nothing.
 use mathlib.Core.Path.{◌≡◌, refl, sym, ◌∙◌}
 use native.Mathlib.Omega.{arith}
-use lib.Ieee.{Float}
 use lib.ListN.{length}
 use Rattle.interval.specs.Boxes.{boxes_of}
 use Rattle.interval.specs.BoxLaws.{first_set, boxes_at}
 use Rattle.nra.proofs.Halves.{moved_wide, again_wide, moved_length, again_length, moved_distance, again_distance, halved_is}
-use borrow.Author.Rules.{rules, length_unmapped}
 use Rattle.nra.proofs.halving.halved.Goals as goal
 use Rattle.nra.proofs.halving.halved.Goals.{Start}
 

@@ -4,7 +4,6 @@ use native.Mathlib.Omega.{arith}
 use Rattle.nra.specs.Answers.{progress_of}
 use Rattle.nra.proofs.Halves.{middle_length, middle_checked}
 use Rattle.nra.proofs.Steps.{begin_conflict, begin_passed, begin_goes}
-use borrow.Author.Rules.{rules}
 use Rattle.nra.proofs.run.begin.Goals as goal
 
 pub returns-then-is_conflict : goal.returns-then-is_conflict

@@ -2,7 +2,6 @@
 use mathlib.Core.Path.{◌∙◌}
 use Rattle.nra.specs.Answers.{problem}
 use Rattle.nra.proofs.Steps.{still_working, halved_settles}
-use borrow.Author.Rules.{rules}
 use Rattle.nra.proofs.run.halve.Goals as goal
 
 pub settle-requires : goal.settle-requires

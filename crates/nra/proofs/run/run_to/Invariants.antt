@@ -1,14 +1,10 @@
 -- What each turn of the loop keeps, and what falls.
 use Prim.Native.Nat.{◌-◌}
-use mathlib.Core.Path.{◌≡◌, refl, sym, ◌∙◌}
-use native.Mathlib.Omega.{arith}
-use borrow.Author.Tests.{not-true, not-false}
-use borrow.Author.Rules.{rules}
+use mathlib.Core.Path.{◌≡◌}
 use lib.ListN.{length}
 use Rattle.constraint.specs.Records.{constraint_at}
 use Rattle.nra.specs.Answers.{problem, progress_of}
 use Rattle.nra.specs.Solver as Solver
-use Rattle.nra.proofs.Steps.{still_working, runs_on, runs_out, runs_stopped}
 use Rattle.nra.proofs.run.run_to.Given as goal
 
 abbrev pub invariant-loop-run : goal.invariant-loop-run

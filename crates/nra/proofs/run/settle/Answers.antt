@@ -4,7 +4,6 @@ use native.Mathlib.Omega.{arith}
 use Rattle.nra.specs.Answers.{progress_of}
 use Rattle.nra.proofs.Halves.{middle_length, middle_checked, middle_distance}
 use Rattle.nra.proofs.Steps.{settle_conflict, settle_passed, settle_narrow, settle_goes}
-use borrow.Author.Rules.{rules}
 use Rattle.nra.proofs.run.settle.Goals as goal
 
 pub returns-then-is_conflict : goal.returns-then-is_conflict

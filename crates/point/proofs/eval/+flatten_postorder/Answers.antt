@@ -1,12 +1,10 @@
 -- `point::eval::flatten_postorder` meets its contract: the node's number falls at each call. Assumes nothing.
-use Prim.Native.Nat.{ℕ, ◌<◌}
-use mathlib.Core.Path.{◌≡◌, sym, ◌∙◌}
+use Prim.Native.Nat.{◌<◌}
+use mathlib.Core.Path.{sym, ◌∙◌}
 use borrow.Enum.Refused.{opened}
 use native.Mathlib.Omega.{arith}
-use borrow.Author.Rules.{rules}
 use lib.ListN.{length, length-set}
-use Rattle.tree.specs.declared.Node.{Node}
-use Rattle.tree.specs.Nodes.{node_at, tree_at}
+use Rattle.tree.specs.Nodes.{tree_at}
 use Rattle.tree.specs.NodeLaws.{in_bytes}
 use Rattle.point.proofs.Machine.{positive}
 use Rattle.point.proofs.Flattening.{lower, sizes, leaf, node}

@@ -1,5 +1,4 @@
 -- `point::eval::eml_complex` meets its contract. Assumes nothing.
-use borrow.Author.Rules.{rules}
 use mathlib.Core.Path.{sym, ◌∙◌}
 use Rattle.number.specs.Notation.{if◌then◌else◌}
 use Rattle.point.specs.Eval.{eml_complex, numeric}

@@ -1,7 +1,6 @@
 -- `point::eval::eval_complex` meets its contract: the postorder of the node's tree, run, is the tree's meaning. Assumes nothing.
 use mathlib.Core.Path.{refl, ◌∙◌}
 use native.Mathlib.Omega.{arith}
-use borrow.Author.Rules.{rules}
 use Rattle.tree.specs.NodeLaws.{depth_small}
 use Rattle.point.proofs.Flattening.{no_numbers}
 use Rattle.point.proofs.Machine.{answers, balanced_deep, balanced_long}

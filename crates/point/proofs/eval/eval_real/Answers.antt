@@ -1,6 +1,5 @@
 -- `point::eval::eval_real` meets its contract. Assumes nothing.
 use mathlib.Core.Path.{sym, ap, ◌∙◌}
-use borrow.Author.Rules.{rules}
 use Rattle.point.specs.Eval.{eval_real, evaluated}
 use Rattle.point.proofs.eval.eval_real.Goals as goal
 

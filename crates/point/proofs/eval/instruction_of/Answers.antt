@@ -1,6 +1,5 @@
 -- `point::eval::instruction_of` meets its contract. Assumes nothing.
 use mathlib.Core.Path.{sym, ap}
-use borrow.Author.Rules.{rules}
 use Rattle.point.specs.Machine.{instruction_of}
 use Rattle.point.proofs.eval.instruction_of.Goals as goal
 

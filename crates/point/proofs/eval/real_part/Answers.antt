@@ -1,6 +1,5 @@
 -- `point::eval::real_part` meets its contract. Assumes nothing.
 use mathlib.Core.Path.{sym, ◌∙◌}
-use borrow.Author.Rules.{rules}
 use Rattle.number.specs.Notation.{if◌then◌else◌}
 use Rattle.point.specs.Eval.{real_part}
 use Rattle.point.proofs.Threshold.{threshold_is}

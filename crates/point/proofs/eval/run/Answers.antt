@@ -1,18 +1,16 @@
 -- `point::eval::run` meets its contract: at the loop's head, running what is left on the stack's values gives what running all gives.
-use Prim.Native.Nat.{◌<◌, ◌≤◌, ◌+◌, ◌-◌}
+use Prim.Native.Nat.{◌<◌, ◌≤◌, ◌+◌}
 use mathlib.Core.Path.{◌≡◌, refl, sym, ap, ap₂, ◌∙◌}
-use mathlib.Core.Logic.{⊎_elim}
-use mathlib.Core.List.{List, [], ◌∷◌}
+use mathlib.Core.List.{◌∷◌}
 use native.Mathlib.Omega.{arith}
-use borrow.Author.Rules.{rules}
 use lib.Ieee.{Float}
 use lib.ListN.{length, drop}
 use Rattle.number.specs.Literals.{one_is}
 use Rattle.point.specs.declared.eval.Instruction.{Instruction}
 use Rattle.point.specs.declared.eval.EvaluatedComplex.{EvaluatedComplex}
 use Rattle.point.specs.Eval.{real, eml_complex}
-use Rattle.point.specs.Machine.{instructions, instruction_of, run}
-use Rattle.point.proofs.Loop.{State, next, done, fit, there, place, Stored, by, turn, stop, ended}
+use Rattle.point.specs.Machine.{instructions, instruction_of}
+use Rattle.point.proofs.Loop.{next, done, fit, there, place, Stored, by, turn, stop, ended}
 use Rattle.point.proofs.eval.run.Goals as goal
 use Rattle.point.proofs.eval.run.Goals.{After-instruction_of, In-Eml, Joined-instruction_of, in-PushOne, in-PushConst, in-PushVar+in-Value, in-Eml+in-Value-out}
 

@@ -1,18 +1,9 @@
 -- What each turn of the loop keeps, and what falls.
-use Prim.Native.Nat.{◌<◌, ◌≤◌, ◌+◌, ◌-◌}
-use mathlib.Core.Path.{◌≡◌, refl, sym, ap, ap₂, ◌∙◌}
-use mathlib.Core.Logic.{⊎_elim}
-use mathlib.Core.List.{List, [], ◌∷◌}
-use native.Mathlib.Omega.{arith}
-use borrow.Author.Rules.{rules}
-use lib.Ieee.{Float}
+use Prim.Native.Nat.{◌≤◌, ◌-◌}
+use mathlib.Core.List.{[]}
 use lib.ListN.{length, drop}
-use Rattle.number.specs.Literals.{one_is}
-use Rattle.point.specs.declared.eval.Instruction.{Instruction}
-use Rattle.point.specs.declared.eval.EvaluatedComplex.{EvaluatedComplex}
-use Rattle.point.specs.Eval.{real, eml_complex}
-use Rattle.point.specs.Machine.{instructions, instruction_of, run}
-use Rattle.point.proofs.Loop.{State, next, done, fit, there, place, Stored, by, turn, stop, ended}
+use Rattle.point.specs.Machine.{instructions, run}
+use Rattle.point.proofs.Loop.{State}
 use Rattle.point.proofs.eval.run.Given as goal
 
 -- Assumes nothing.

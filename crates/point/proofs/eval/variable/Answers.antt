@@ -1,5 +1,4 @@
 -- `point::eval::variable` meets its contract. Assumes nothing.
-use borrow.Author.Rules.{rules}
 use borrow.Author.Tests.{lt-ltb, le-ltb}
 use Rattle.number.specs.Notation.{if◌then◌else◌}
 use Rattle.point.specs.Eval.{variable}

@@ -1,18 +1,13 @@
 -- The functions of the check meet their contracts: at each call the record number falls, or the same record is looked at more closely.
-use Prim.Native.Nat.{ℕ, ◌≤◌, ◌+◌, ◌-◌, ◌*◌}
-use mathlib.Core.Path.{◌≡◌, refl, ap, ◌∙◌}
+use mathlib.Core.Path.{refl, ap, ◌∙◌}
 use mathlib.Core.Bool.{not}
 use native.Mathlib.Omega.{arith}
-use borrow.Author.Rules.{rules}
-use lib.ListN.{length, set, drop}
+use lib.ListN.{length}
 use Rattle.constraint.specs.RecordLaws.{record_there, some, start_falls, before_last, last}
-use Rattle.constraint.specs.Records.{constraint_at}
-use Rattle.point.specs.declared.helpers.Shape.{Shape}
 use Rattle.point.specs.Room.{kept}
 use Rattle.point.specs.Check.{check}
-use Rattle.point.specs.Code.{quantified}
 use Rattle.point.proofs.Checking.{each_of_none, each_settled, each_goes_on, left, all_left, none_left, sample_settled, sample_goes_on}
-use Rattle.point.proofs.Shapes.{Says, says}
+use Rattle.point.proofs.Shapes.{says}
 use Rattle.point.proofs.Sampling.{sample_length, sample_there, sample_room}
 use Rattle.point.proofs.helpers.+check_constraint_check_each_check_samples.Goals as goal
 

@@ -1,20 +1,12 @@
 -- What falls at each call.
 use Prim.Native.Nat.{◌+◌, ◌*◌, ◌-◌}
-use Prim.Native.Nat.{ℕ, ◌≤◌, ◌+◌, ◌-◌, ◌*◌}
-use mathlib.Core.Path.{◌≡◌, refl, ap, ◌∙◌}
-use mathlib.Core.Bool.{not}
-use native.Mathlib.Omega.{arith}
-use borrow.Author.Rules.{rules}
+use Prim.Native.Nat.{◌≤◌, ◌+◌, ◌-◌, ◌*◌}
+use mathlib.Core.Path.{◌≡◌}
 use lib.ListN.{length, set, drop}
-use Rattle.constraint.specs.RecordLaws.{record_there, some, start_falls, before_last, last}
 use Rattle.constraint.specs.Records.{constraint_at}
-use Rattle.point.specs.declared.helpers.Shape.{Shape}
-use Rattle.point.specs.Room.{kept}
 use Rattle.point.specs.Check.{check}
 use Rattle.point.specs.Code.{quantified}
-use Rattle.point.proofs.Checking.{each_of_none, each_settled, each_goes_on, left, all_left, none_left, sample_settled, sample_goes_on}
-use Rattle.point.proofs.Shapes.{Says, says}
-use Rattle.point.proofs.Sampling.{sample_length, sample_there, sample_room}
+use Rattle.point.proofs.Checking.{left}
 use Rattle.point.proofs.helpers.+check_constraint_check_each_check_samples.Given as goal
 
 abbrev pub decreases-check_constraint : goal.decreases-check_constraint

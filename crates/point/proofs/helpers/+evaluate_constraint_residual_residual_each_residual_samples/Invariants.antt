@@ -1,19 +1,12 @@
 -- What falls at each call.
 use Prim.Native.Nat.{◌+◌, ◌*◌, ◌-◌}
-use Prim.Native.Nat.{ℕ, ◌≤◌, ◌+◌, ◌-◌, ◌*◌}
-use mathlib.Core.Path.{◌≡◌, refl, ap, ap₂, ◌∙◌}
-use native.Mathlib.Omega.{arith}
-use borrow.Author.Rules.{rules}
+use Prim.Native.Nat.{◌≤◌, ◌+◌, ◌-◌, ◌*◌}
+use mathlib.Core.Path.{◌≡◌}
 use lib.ListN.{length, set, drop}
-use Rattle.constraint.specs.RecordLaws.{record_there, some, start_falls, before_last, last}
 use Rattle.constraint.specs.Records.{constraint_at}
-use Rattle.point.specs.declared.helpers.Shape.{Shape}
-use Rattle.point.specs.Room.{kept}
-use Rattle.point.specs.Residual.{residual_of_not, residual}
+use Rattle.point.specs.Residual.{residual}
 use Rattle.point.specs.Code.{quantified, sample_more}
-use Rattle.point.proofs.Residuals.{each_of_none, each_of_more, after, all_left, none_left, one_left}
-use Rattle.point.proofs.Shapes.{Says, says}
-use Rattle.point.proofs.Sampling.{sample_length, sample_there, sample_room}
+use Rattle.point.proofs.Residuals.{after}
 use Rattle.point.proofs.helpers.+evaluate_constraint_residual_residual_each_residual_samples.Given as goal
 
 abbrev pub decreases-evaluate_constraint_residual : goal.decreases-evaluate_constraint_residual

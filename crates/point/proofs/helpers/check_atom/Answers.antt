@@ -1,6 +1,5 @@
 -- `point::helpers::check_atom` meets its contract. Assumes nothing.
 use mathlib.Core.Path.{sym, ap, ◌∙◌}
-use borrow.Author.Rules.{rules}
 use Rattle.point.specs.Check.{passes}
 use Rattle.point.proofs.helpers.check_atom.Goals as goal
 

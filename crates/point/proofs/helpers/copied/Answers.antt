@@ -1,8 +1,7 @@
 -- `point::helpers::copied` meets its contract: the copy goes from the front, and its first places are the point. Assumes nothing.
-use Prim.Native.Nat.{◌≤◌, ◌-◌}
-use mathlib.Core.Path.{◌≡◌, refl}
+use mathlib.Core.Path.{refl}
 use native.Mathlib.Omega.{arith}
-use lib.ListN.{length, take, length-set}
+use lib.ListN.{length-set}
 use Rattle.point.proofs.Sampling.{copied_more, all_copied}
 use Rattle.point.proofs.helpers.copied.Goals as goal
 

@@ -1,9 +1,7 @@
 -- What each turn of the loop keeps, and what falls.
 use Prim.Native.Nat.{◌≤◌, ◌-◌}
-use mathlib.Core.Path.{◌≡◌, refl}
-use native.Mathlib.Omega.{arith}
-use lib.ListN.{length, take, length-set}
-use Rattle.point.proofs.Sampling.{copied_more, all_copied}
+use mathlib.Core.Path.{◌≡◌}
+use lib.ListN.{length, take}
 use Rattle.point.proofs.helpers.copied.Given as goal
 
 abbrev pub invariant-loop-i : goal.invariant-loop-i

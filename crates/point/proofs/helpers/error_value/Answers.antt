@@ -1,5 +1,4 @@
 -- `point::helpers::error_value` meets its contract. Assumes nothing.
-use borrow.Author.Rules.{rules}
 use Rattle.number.specs.Literals.{zero_is, infinite, minus_infinite}
 use Rattle.point.proofs.helpers.error_value.Goals as goal
 

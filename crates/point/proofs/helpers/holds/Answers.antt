@@ -1,6 +1,5 @@
 -- `point::helpers::holds` meets its contract. Assumes nothing.
 use mathlib.Core.Path.{sym}
-use borrow.Author.Rules.{rules}
 use Rattle.number.specs.Literals.{zero_is}
 use Rattle.point.specs.Check.{holds}
 use Rattle.point.proofs.helpers.holds.Goals as goal

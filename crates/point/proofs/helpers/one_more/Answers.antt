@@ -1,6 +1,5 @@
 -- `point::helpers::one_more` meets its contract. Assumes nothing.
 use mathlib.Core.Path.{sym}
-use borrow.Author.Rules.{rules}
 use Rattle.point.proofs.helpers.one_more.Goals as goal
 
 pub returns-then-any : goal.returns-then-any

@@ -1,6 +1,5 @@
 -- `point::helpers::residual_of_atom` meets its contract. Assumes nothing.
 use mathlib.Core.Path.{sym, ap, ◌∙◌}
-use borrow.Author.Rules.{rules}
 use Rattle.point.specs.declared.eval.Evaluated.{Evaluated}
 use Rattle.point.specs.Residual.{shortfall, value_or, error_value}
 use Rattle.point.proofs.helpers.residual_of_atom.Goals as goal

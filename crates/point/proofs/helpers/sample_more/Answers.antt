@@ -1,6 +1,5 @@
 -- `point::helpers::sample_more` meets its contract. Assumes nothing.
 use mathlib.Core.Path.{sym}
-use borrow.Author.Rules.{rules}
 use Rattle.point.proofs.helpers.sample_more.Goals as goal
 
 pub returns-then-any : goal.returns-then-any

@@ -1,7 +1,6 @@
 -- `point::helpers::sampled` meets its contract. Assumes nothing.
 use mathlib.Core.Path.{sym}
 use native.Mathlib.Omega.{arith}
-use borrow.Author.Rules.{rules}
 use lib.ListN.{length-take}
 use lib.Seq.{take-set-lt, set_out}
 use Rattle.point.proofs.helpers.sampled.Goals as goal

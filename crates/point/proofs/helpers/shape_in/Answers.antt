@@ -1,6 +1,5 @@
 -- `point::helpers::shape_in` meets its contract. Assumes nothing.
 use mathlib.Core.Path.{◌≡◌, sym, ap, ◌∙◌}
-use borrow.Author.Rules.{rules}
 use Rattle.constraint.specs.declared.Record.{Record}
 use Rattle.point.specs.Code.{shape_of}
 use Rattle.point.proofs.helpers.shape_in.Goals as goal

@@ -1,5 +1,4 @@
 -- `point::helpers::shortfall` meets its contract. Assumes nothing.
-use borrow.Author.Rules.{rules}
 use Rattle.number.specs.Notation.{if◌then◌else◌}
 use Rattle.number.specs.Literals.{zero_is}
 use Rattle.point.specs.Residual.{shortfall}

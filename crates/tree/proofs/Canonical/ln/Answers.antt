@@ -1,7 +1,6 @@
 -- `tree::Canonical::ln` meets its contract. Assumes nothing.
 use mathlib.Core.Path.{sym, ◌∙◌}
 use native.Mathlib.Omega.{arith}
-use borrow.Author.Rules.{rules}
 use Rattle.tree.specs.CanonicalLaws.{ln_accepted}
 use Rattle.tree.specs.Canonical.{ln}
 use Rattle.tree.proofs.Append.{append_refused, append_done}
