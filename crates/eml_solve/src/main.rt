@@ -1,9 +1,13 @@
 // The printing program of document 01: reads a house file from standard input, solves it with limit 10,000 and tolerance 1e-8, and prints the
 // answer's lines. What is printed no contract can say; the digits and the answer are proved, and the lines are compared by running.
-ghost use Rattle.std.specs.Prelude.{◌≡◌, ◌<◌, ◌≤◌, length};
+#![tactic(auto)]
+
+ghost use Rattle.std.specs.Prelude.{◌≡◌, ◌<◌, ◌≤◌, IfOk, length};
 ghost use Rattle.eml_solve.specs.Hex.{glyph, hex_of};
 
 use nra::answer::{Solved, Stop};
+use std::io;
+use std::io::{ErrorKind, Read};
 
 fn digit(d: u8) -> u8
     requires { d < 16 }
@@ -26,84 +30,96 @@ fn hex(bits: u64) -> [u8; 16]
     text
 }
 
-fn print_bits(x: f64) {
+fn print_bits(rt: &impl Print, x: f64) -> io::Result<()> {
     let text = hex(number::bits_of(x));
-    io::write_all(1, &text);
-    io::write_all(1, b"\n");
+    rt.write_all(&text)?;
+    println!(rt)
 }
 
-fn print_count(n: usize) {
-    io::print_decimal(1, n as u64);
+fn print_count(rt: &impl Print, n: usize) -> io::Result<()> {
+    print!(rt; "{n}")
 }
 
-fn print_stop(stop: Stop) {
-    match stop {
-        Stop::Assignment => io::write_all(1, b"assignment\n"),
-        Stop::Conflict => io::write_all(1, b"conflict\n"),
-        Stop::Tolerance => io::write_all(1, b"tolerance\n"),
-        Stop::Limit => io::write_all(1, b"limit\n"),
-        Stop::Unsatisfied => io::write_all(1, b"unsatisfied\n"),
+fn print_stop(rt: &impl Print, stop: Stop) -> io::Result<()> {
+    let word = match stop {
+        Stop::Assignment => "assignment",
+        Stop::Conflict => "conflict",
+        Stop::Tolerance => "tolerance",
+        Stop::Limit => "limit",
+        Stop::Unsatisfied => "unsatisfied",
     };
+    println!(rt; "{word}")
 }
 
 // "exact" of an assignment, "best" of any other answer.
-fn print_quality(stop: Stop, exact: bool, residual: f64) {
+fn print_quality(rt: &impl Print, stop: Stop, exact: bool, residual: f64) -> io::Result<()> {
     let Stop::Assignment = stop else {
-        io::write_all(1, b"best ");
-        print_bits(residual);
-        return;
+        print!(rt; "best ")?;
+        return print_bits(rt, residual);
     };
     if exact {
-        io::write_all(1, b"exact 1\n");
+        println!(rt; "exact 1")
     } else {
-        io::write_all(1, b"exact 0\n");
+        println!(rt; "exact 0")
     }
 }
 
-fn print_variable(i: usize, x: f64) {
-    io::write_all(1, b"v");
-    print_count(i);
-    io::write_all(1, b" ");
-    print_bits(x);
+fn print_variable(rt: &impl Print, i: usize, x: f64) -> io::Result<()> {
+    print!(rt; "v")?;
+    print_count(rt, i)?;
+    print!(rt; " ")?;
+    print_bits(rt, x)
 }
 
-fn print_variables(point: [f64; 16], count: usize)
+fn print_variables(rt: &impl Print, point: [f64; 16], count: usize) -> io::Result<()>
     requires { count ≤ length point }
 {
-    let mut i: usize = 0;
-    while i < count {
-        print_variable(i, point[i]);
-        i += 1;
+    for i in 0..count {
+        print_variable(rt, i, point[i])?;
     }
+    Ok(())
 }
 
-fn print_solved(s: Solved)
+fn print_solved(rt: &impl Print, s: Solved) -> io::Result<()>
     requires { s.count ≤ length s.point }
 {
     let stop = s.stop;
-    print_stop(stop);
-    print_quality(stop, s.exact, s.residual);
-    io::write_all(1, b"halvings ");
-    print_count(s.halvings);
-    io::write_all(1, b"\n");
+    print_stop(rt, stop)?;
+    print_quality(rt, stop, s.exact, s.residual)?;
+    print!(rt; "halvings ")?;
+    print_count(rt, s.halvings)?;
+    println!(rt)?;
     let point = s.point;
-    print_variables(point, s.count);
+    print_variables(rt, point, s.count)
 }
 
-fn print_refusal(number: u8) {
-    io::write_all(1, b"refused ");
-    io::print_decimal(1, number as u64);
-    io::write_all(1, b"\n");
+fn print_refusal(rt: &impl Print, number: u8) -> io::Result<()> {
+    println!(rt; "refused {number}")
 }
 
-fn main() {
+// Reads until the buffer is full or the input ends, and returns how many bytes it put at the start. A read that a signal interrupts is made again.
+fn read_full<R: Read>(input: &mut R, buf: &mut [u8]) -> io::Result<usize>
+    ensures { IfOk result (λ n. n ≤ length buf.new) }
+{
+    let mut done: usize = 0;
+    for _ in 0..u64::MAX {
+        match input.read(&mut buf[done..]) {
+            Ok(0) => break,
+            Ok(n) => done += n,
+            Err(e) if e.kind() == ErrorKind::Interrupted => {}
+            Err(e) => return Err(e),
+        }
+    }
+    Ok(done)
+}
+
+fn main(rt: HostRuntime) -> io::Result<()> {
     // One byte more than the largest file has, so that no longer one is cut down to a legal length.
     let mut bytes = [0u8; 22817];
-    let n = io::read_full(0, &mut bytes);
+    let n = read_full(&mut rt.stdin(), &mut bytes)?;
     let s = nra::solve_file(&bytes[..n], 10_000, 1e-8, 16);
     if s.refusal != 0 {
-        print_refusal(s.refusal);
-        return;
+        return print_refusal(&rt, s.refusal);
     }
-    print_solved(s);
+    print_solved(&rt, s)
 }
