@@ -2,12 +2,11 @@
 // answer's lines. What is printed no contract can say; the digits and the answer are proved, and the lines are compared by running.
 #![tactic(auto)]
 
-ghost use Rattle.std.specs.Prelude.{◌≡◌, ◌<◌, ◌≤◌, IfOk, length};
+ghost use Rattle.std.specs.Prelude.{◌≡◌, ◌<◌, ◌≤◌, length};
 ghost use Rattle.eml_solve.specs.Hex.{glyph, hex_of};
 
 use nra::answer::{Solved, Stop};
 use std::io;
-use std::io::{ErrorKind, Read};
 
 fn digit(d: u8) -> u8
     requires { d < 16 }
@@ -97,26 +96,10 @@ fn print_refusal(rt: &impl Print, number: u8) -> io::Result<()> {
     println!(rt; "refused {number}")
 }
 
-// Reads until the buffer is full or the input ends, and returns how many bytes it put at the start. A read that a signal interrupts is made again.
-fn read_full<R: Read>(input: &mut R, buf: &mut [u8]) -> io::Result<usize>
-    ensures { IfOk result (λ n. n ≤ length buf.new) }
-{
-    let mut done: usize = 0;
-    for _ in 0..u64::MAX {
-        match input.read(&mut buf[done..]) {
-            Ok(0) => break,
-            Ok(n) => done += n,
-            Err(e) if e.kind() == ErrorKind::Interrupted => {}
-            Err(e) => return Err(e),
-        }
-    }
-    Ok(done)
-}
-
 fn main(rt: HostRuntime) -> io::Result<()> {
     // One byte more than the largest file has, so that no longer one is cut down to a legal length.
     let mut bytes = [0u8; 22817];
-    let n = read_full(&mut rt.stdin(), &mut bytes)?;
+    let n = input::read_full(&mut rt.stdin(), &mut bytes)?;
     let s = nra::solve_file(&bytes[..n], 10_000, 1e-8, 16);
     if s.refusal != 0 {
         return print_refusal(&rt, s.refusal);

@@ -2,28 +2,12 @@
 // came out the same. A case is 176 bytes of what was asked and answered, then the file; reference/src/replay.rs writes them.
 #![tactic(auto)]
 
-ghost use Rattle.std.specs.Prelude.{◌≤◌, IfOk, length};
+ghost use Rattle.std.specs.Prelude.{◌≤◌, length};
 
 use narrow::Propagated;
 use nra::answer::Solved;
 use std::io;
-use std::io::{ErrorKind, Read};
-
-// Reads until the buffer is full or the input ends, and returns how many bytes it put at the start. A read that a signal interrupts is made again.
-fn read_full<R: Read>(input: &mut R, buf: &mut [u8]) -> io::Result<usize>
-    ensures { IfOk result (λ n. n ≤ length buf.new) }
-{
-    let mut done: usize = 0;
-    for _ in 0..u64::MAX {
-        match input.read(&mut buf[done..]) {
-            Ok(0) => break,
-            Ok(n) => done += n,
-            Err(e) if e.kind() == ErrorKind::Interrupted => {}
-            Err(e) => return Err(e),
-        }
-    }
-    Ok(done)
-}
+use std::io::Read;
 
 // The point's 16 places against their bits, from byte 48 on.
 fn is_same_point(s: Solved, head: &[u8]) -> bool
@@ -53,10 +37,10 @@ fn is_same(s: Solved, head: &[u8]) -> bool
 }
 
 // Reads the file, and solves it. Byte 8 has the limit, 16 the tolerance.
-fn replays<R: Read>(input: &mut R, file: &mut [u8], head: &[u8]) -> io::Result<bool>
+fn replays<R: Read>(reader: &mut R, file: &mut [u8], head: &[u8]) -> io::Result<bool>
     requires { 176 ≤ length head.now }
 {
-    let got = read_full(input, file)?;
+    let got = input::read_full(reader, file)?;
     let limit = record::read_u64(head, 8) as usize;
     let s = nra::solve_file(&file[..got], limit, record::read_f64(head, 16), 16);
     Ok(is_same(s, head))
@@ -114,17 +98,17 @@ enum Case {
 }
 
 // Byte 0 has the file's length, 4 is 0 for an example.
-fn next_case<R: Read>(input: &mut R, head: &mut [u8], file: &mut [u8]) -> io::Result<Case>
+fn next_case<R: Read>(reader: &mut R, head: &mut [u8], file: &mut [u8]) -> io::Result<Case>
     requires { 176 ≤ length head.old }
 {
-    if read_full(input, head)? < 176 {
+    if input::read_full(reader, head)? < 176 {
         return Ok(Case::End);
     }
     let n = record::read_u32(head, 0) as usize;
     if file.len() < n {
         return Ok(Case::End);
     }
-    let same = replays(input, &mut file[..n], head)?;
+    let same = replays(reader, &mut file[..n], head)?;
     if head[4] == 0 {
         return Ok(Case::Example(same));
     }
@@ -163,7 +147,7 @@ impl Counts {
 }
 
 // At most 10,000 cases, so that the loop ends.
-fn replay_all<R: Read>(input: &mut R, head: &mut [u8], file: &mut [u8]) -> io::Result<Counts>
+fn replay_all<R: Read>(reader: &mut R, head: &mut [u8], file: &mut [u8]) -> io::Result<Counts>
     requires { 176 ≤ length head.old }
 {
     let none = Count { same: 0, of: 0 };
@@ -173,7 +157,7 @@ fn replay_all<R: Read>(input: &mut R, head: &mut [u8], file: &mut [u8]) -> io::R
         more: true,
     };
     for _ in 0..10_000 {
-        counts = counts.and(next_case(input, head, file)?);
+        counts = counts.and(next_case(reader, head, file)?);
         if !counts.more {
             break;
         }

@@ -1,6 +1,0 @@
--- What each turn of the loop keeps.
-use Rattle.std.proofs.Common.{◌≤◌, length}
-use Rattle.table.proofs.read_full.Given as goal
-
-abbrev pub invariant-loop : goal.invariant-loop
-invariant-loop g l = l.done ≤ length l.buf
