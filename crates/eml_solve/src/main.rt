@@ -1,12 +1,18 @@
 // The printing program of document 01: reads a house file from standard input, solves it with limit 10,000 and tolerance 1e-8, and prints the
-// answer's lines. What is printed no contract can say; the digits and the answer are proved, and the lines are compared by running.
+// answer's lines. That the reader's bytes give the writer those lines is proved; that standard input and output are such is compared by running.
 #![tactic(auto)]
 
-ghost use Rattle.std.specs.Prelude.{◌≡◌, ◌<◌, ◌≤◌, length};
+ghost use Rattle.std.specs.Prelude.{◌≡◌, ◌<◌, ◌≤◌, ◌++◌, OnOk, IfSome, length, take};
+ghost use Rattle.std.specs.Io.KnownBytes.{Appends};
+ghost use Rattle.std.specs.Fmt.{decimal};
 ghost use Rattle.eml_solve.specs.Hex.{glyph, hex_of};
+ghost use Rattle.eml_solve.specs.Lines.{bits_line, end, stop_word, quality_line, variable_line, variable_lines, solved_lines, refusal_line, answer_lines};
+ghost use Rattle.nra.specs.Calls.{solve_file};
+ghost use Rattle.settings.specs.Settings.{usual};
 
 use nra::answer::{Solved, Stop};
 use std::io;
+use std::io::{Read, Write};
 
 fn digit(d: u8) -> u8
     requires { d < 16 }
@@ -29,17 +35,23 @@ fn hex(bits: u64) -> [u8; 16]
     text
 }
 
-fn print_bits(rt: &impl Print, x: f64) -> io::Result<()> {
+fn print_bits<W: Write>(out: &mut W, x: f64) -> io::Result<()>
+    ensures { OnOk result (Appends (W.contents out.old) (W.contents out.new) (bits_line x)) }
+{
     let text = hex(number::bits_of(x));
-    rt.write_all(&text)?;
-    println!(rt)
+    out.write_all(&text)?;
+    writeln!(out)
 }
 
-fn print_count(rt: &impl Print, n: usize) -> io::Result<()> {
-    print!(rt; "{n}")
+fn print_count<W: Write>(out: &mut W, n: usize) -> io::Result<()>
+    ensures { OnOk result (Appends (W.contents out.old) (W.contents out.new) (decimal n)) }
+{
+    write!(out, "{n}")
 }
 
-fn print_stop(rt: &impl Print, stop: Stop) -> io::Result<()> {
+fn print_stop<W: Write>(out: &mut W, stop: Stop) -> io::Result<()>
+    ensures { OnOk result (Appends (W.contents out.old) (W.contents out.new) (stop_word stop ++ end)) }
+{
     let word = match stop {
         Stop::Assignment => "assignment",
         Stop::Conflict => "conflict",
@@ -47,62 +59,86 @@ fn print_stop(rt: &impl Print, stop: Stop) -> io::Result<()> {
         Stop::Limit => "limit",
         Stop::Unsatisfied => "unsatisfied",
     };
-    println!(rt; "{word}")
+    writeln!(out, "{word}")
 }
 
 // "exact" of an assignment, "best" of any other answer.
-fn print_quality(rt: &impl Print, stop: Stop, exact: bool, residual: f64) -> io::Result<()> {
+fn print_quality<W: Write>(out: &mut W, stop: Stop, exact: bool, residual: f64) -> io::Result<()>
+    ensures { OnOk result (Appends (W.contents out.old) (W.contents out.new) (quality_line stop exact residual)) }
+{
     let Stop::Assignment = stop else {
-        print!(rt; "best ")?;
-        return print_bits(rt, residual);
+        write!(out, "best ")?;
+        return print_bits(out, residual);
     };
     if exact {
-        println!(rt; "exact 1")
+        writeln!(out, "exact 1")
     } else {
-        println!(rt; "exact 0")
+        writeln!(out, "exact 0")
     }
 }
 
-fn print_variable(rt: &impl Print, i: usize, x: f64) -> io::Result<()> {
-    print!(rt; "v")?;
-    print_count(rt, i)?;
-    print!(rt; " ")?;
-    print_bits(rt, x)
+fn print_variable<W: Write>(out: &mut W, i: usize, x: f64) -> io::Result<()>
+    ensures { OnOk result (Appends (W.contents out.old) (W.contents out.new) (variable_line i x)) }
+{
+    write!(out, "v")?;
+    print_count(out, i)?;
+    write!(out, " ")?;
+    print_bits(out, x)
 }
 
-fn print_variables(rt: &impl Print, point: [f64; 16], count: usize) -> io::Result<()>
+fn print_variables<W: Write>(out: &mut W, point: [f64; 16], count: usize) -> io::Result<()>
     requires { count ≤ length point }
+    ensures { OnOk result (Appends (W.contents out.old) (W.contents out.new) (variable_lines count point)) }
 {
     for i in 0..count {
-        print_variable(rt, i, point[i])?;
+        print_variable(out, i, point[i])?;
     }
     Ok(())
 }
 
-fn print_solved(rt: &impl Print, s: Solved) -> io::Result<()>
+fn print_solved<W: Write>(out: &mut W, s: Solved) -> io::Result<()>
     requires { s.count ≤ length s.point }
+    ensures { OnOk result (Appends (W.contents out.old) (W.contents out.new) (solved_lines s)) }
 {
     let stop = s.stop;
-    print_stop(rt, stop)?;
-    print_quality(rt, stop, s.exact, s.residual)?;
-    print!(rt; "halvings ")?;
-    print_count(rt, s.halvings)?;
-    println!(rt)?;
+    print_stop(out, stop)?;
+    print_quality(out, stop, s.exact, s.residual)?;
+    write!(out, "halvings ")?;
+    print_count(out, s.halvings)?;
+    writeln!(out)?;
     let point = s.point;
-    print_variables(rt, point, s.count)
+    print_variables(out, point, s.count)
 }
 
-fn print_refusal(rt: &impl Print, number: u8) -> io::Result<()> {
-    println!(rt; "refused {number}")
+fn print_refusal<W: Write>(out: &mut W, number: u8) -> io::Result<()>
+    ensures { OnOk result (Appends (W.contents out.old) (W.contents out.new) (refusal_line number)) }
+{
+    writeln!(out, "refused {number}")
+}
+
+const TOLERANCE: f64 = 1e-8;
+
+// Solves a house file, and prints the answer.
+fn print_answer<W: Write>(out: &mut W, file: &[u8]) -> io::Result<()>
+    ensures { OnOk result (Appends (W.contents out.old) (W.contents out.new) (answer_lines (solve_file usual file.now 10_000 TOLERANCE 16))) }
+{
+    let s = nra::solve_file(file, 10_000, TOLERANCE, 16);
+    if s.refusal != 0 {
+        return print_refusal(out, s.refusal);
+    }
+    print_solved(out, s)
+}
+
+// Answers the house file that the reader gives. One byte more is read than the largest file has, so that no longer one is cut down to a legal length.
+fn run<R: Read, W: Write>(reader: &mut R, out: &mut W) -> io::Result<()>
+    ensures { OnOk result (IfSome (R.remaining reader.old) (λ all.
+        Appends (W.contents out.old) (W.contents out.new) (answer_lines (solve_file usual (take 22_817 all) 10_000 TOLERANCE 16)))) }
+{
+    let mut bytes = [0u8; 22_817];
+    let n = input::read_full(reader, &mut bytes)?;
+    print_answer(out, &bytes[..n])
 }
 
 fn main(rt: HostRuntime) -> io::Result<()> {
-    // One byte more than the largest file has, so that no longer one is cut down to a legal length.
-    let mut bytes = [0u8; 22817];
-    let n = input::read_full(&mut rt.stdin(), &mut bytes)?;
-    let s = nra::solve_file(&bytes[..n], 10_000, 1e-8, 16);
-    if s.refusal != 0 {
-        return print_refusal(&rt, s.refusal);
-    }
-    print_solved(&rt, s)
+    run(&mut rt.stdin(), &mut rt.stdout())
 }
