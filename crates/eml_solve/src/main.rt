@@ -1,8 +1,9 @@
 // The printing program of document 01: reads a house file from standard input, solves it with limit 10,000 and tolerance 1e-8, and prints the
-// answer's lines. That the reader's bytes give the writer those lines is proved; that standard input and output are such is compared by running.
+// answer's lines. That a file's bytes make those lines is proved, also what is read and what a writer is given; that standard input and output are the
+// reader and the writer that they stand for is compared by running.
 #![tactic(auto)]
 
-ghost use Rattle.std.specs.Prelude.{◌≡◌, ◌<◌, ◌≤◌, ◌++◌, OnOk, IfSome, length, take};
+ghost use Rattle.std.specs.Prelude.{◌≡◌, ◌<◌, ◌≤◌, ◌++◌, OnOk, length};
 ghost use Rattle.std.specs.Io.KnownBytes.{Appends};
 ghost use Rattle.std.specs.Fmt.{decimal};
 ghost use Rattle.eml_solve.specs.Hex.{glyph, hex_of};
@@ -12,7 +13,7 @@ ghost use Rattle.settings.specs.Settings.{usual};
 
 use nra::answer::{Solved, Stop};
 use std::io;
-use std::io::{Read, Write};
+use std::io::Write;
 
 fn digit(d: u8) -> u8
     requires { d < 16 }
@@ -129,16 +130,9 @@ fn print_answer<W: Write>(out: &mut W, file: &[u8]) -> io::Result<()>
     print_solved(out, s)
 }
 
-// Answers the house file that the reader gives. One byte more is read than the largest file has, so that no longer one is cut down to a legal length.
-fn run<R: Read, W: Write>(reader: &mut R, out: &mut W) -> io::Result<()>
-    ensures { OnOk result (IfSome (R.remaining reader.old) (λ all.
-        Appends (W.contents out.old) (W.contents out.new) (answer_lines (solve_file usual (take 22_817 all) 10_000 TOLERANCE 16)))) }
-{
-    let mut bytes = [0u8; 22_817];
-    let n = input::read_full(reader, &mut bytes)?;
-    print_answer(out, &bytes[..n])
-}
-
+// Reads a byte more than the largest file has, so that no longer one is cut down to a legal length. A read that fails counts as the end of the file.
 fn main(rt: HostRuntime) -> io::Result<()> {
-    run(&mut rt.stdin(), &mut rt.stdout())
+    let mut bytes = [0u8; 22_817];
+    let (n, _) = input::read_full(&mut rt.stdin(), &mut bytes);
+    print_answer(&mut rt.stdout(), &bytes[..n])
 }

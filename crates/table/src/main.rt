@@ -37,13 +37,13 @@ fn is_same(s: Solved, head: &[u8]) -> bool
 }
 
 // Reads the file, and solves it. Byte 8 has the limit, 16 the tolerance.
-fn replays<R: Read>(reader: &mut R, file: &mut [u8], head: &[u8]) -> io::Result<bool>
+fn replays<R: Read>(reader: &mut R, file: &mut [u8], head: &[u8]) -> bool
     requires { 176 ≤ length head.now }
 {
-    let got = input::read_full(reader, file)?;
+    let (got, _) = input::read_full(reader, file);
     let limit = record::read_u64(head, 8) as usize;
     let s = nra::solve_file(&file[..got], limit, record::read_f64(head, 16), 16);
-    Ok(is_same(s, head))
+    is_same(s, head)
 }
 
 #[derive(Clone, Copy)]
@@ -98,21 +98,22 @@ enum Case {
 }
 
 // Byte 0 has the file's length, 4 is 0 for an example.
-fn next_case<R: Read>(reader: &mut R, head: &mut [u8], file: &mut [u8]) -> io::Result<Case>
+fn next_case<R: Read>(reader: &mut R, head: &mut [u8], file: &mut [u8]) -> Case
     requires { 176 ≤ length head.old }
 {
-    if input::read_full(reader, head)? < 176 {
-        return Ok(Case::End);
+    let (got, _) = input::read_full(reader, head);
+    if got < 176 {
+        return Case::End;
     }
     let n = record::read_u32(head, 0) as usize;
     if file.len() < n {
-        return Ok(Case::End);
+        return Case::End;
     }
-    let same = replays(reader, &mut file[..n], head)?;
+    let same = replays(reader, &mut file[..n], head);
     if head[4] == 0 {
-        return Ok(Case::Example(same));
+        return Case::Example(same);
     }
-    Ok(Case::Answer(same))
+    Case::Answer(same)
 }
 
 #[derive(Drop)]
@@ -147,7 +148,7 @@ impl Counts {
 }
 
 // At most 10,000 cases, so that the loop ends.
-fn replay_all<R: Read>(reader: &mut R, head: &mut [u8], file: &mut [u8]) -> io::Result<Counts>
+fn replay_all<R: Read>(reader: &mut R, head: &mut [u8], file: &mut [u8]) -> Counts
     requires { 176 ≤ length head.old }
 {
     let none = Count { same: 0, of: 0 };
@@ -157,16 +158,16 @@ fn replay_all<R: Read>(reader: &mut R, head: &mut [u8], file: &mut [u8]) -> io::
         more: true,
     };
     for _ in 0..10_000 {
-        counts = counts.and(next_case(reader, head, file)?);
+        counts = counts.and(next_case(reader, head, file));
         if !counts.more {
             break;
         }
     }
-    Ok(counts)
+    counts
 }
 
 fn main(rt: HostRuntime) -> io::Result<()> {
-    let counts = replay_all(&mut rt.stdin(), &mut [0u8; 176], &mut [0u8; 22816])?;
+    let counts = replay_all(&mut rt.stdin(), &mut [0u8; 176], &mut [0u8; 22816]);
     let mut examples = counts.examples;
     examples = examples.and(is_sixteen_taken());
     examples = examples.and(is_seventeen_refused());

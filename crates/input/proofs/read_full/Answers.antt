@@ -17,6 +17,6 @@ pub loop-done-preserved : goal.loop-done-preserved
 loop-done-preserved g c =
     let done = c.loop-done.done in
     let kept = c.loop-done.invariant in
-    let read = c.in_ok-n.ensures in
-    let part = take_put_mid done (length c.loop-done.buf - done) c.in_ok-n.n c.loop-done.buf c.read.new.buf kept.0 read.bound.0 in
+    let read = c.in-Ok.ensures in
+    let part = take_put_mid done (length c.loop-done.buf - done) c.in-Ok.n c.loop-done.buf c.read.new.buf kept.0 read.bound.0 in
     (search rules, subst (Consumes _ _) (sym part) (Consumes-trans _ _ _ _ _ kept.1 read.bytes.0))
