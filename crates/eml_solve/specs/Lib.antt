@@ -1,2 +1,3 @@
 pub mod Hex
 pub mod HexLaws
+pub mod Lines

@@ -1,9 +1,19 @@
 // The printing program of document 01: reads a house file from standard input, solves it with limit 10,000 and tolerance 1e-8, and prints the
-// answer's lines. What is printed no contract can say; the digits and the answer are proved, and the lines are compared by running.
-ghost use Rattle.std.specs.Prelude.{◌≡◌, ◌<◌, ◌≤◌, length};
+// answer's lines. That a file's bytes make those lines is proved, also what is read and what a writer is given; that standard input and output are the
+// reader and the writer that they stand for is compared by running.
+#![tactic(auto)]
+
+ghost use Rattle.std.specs.Prelude.{◌≡◌, ◌<◌, ◌≤◌, ◌++◌, OnOk, length};
+ghost use Rattle.std.specs.Io.KnownBytes.{Appends};
+ghost use Rattle.std.specs.Fmt.{decimal};
 ghost use Rattle.eml_solve.specs.Hex.{glyph, hex_of};
+ghost use Rattle.eml_solve.specs.Lines.{bits_line, end, stop_word, quality_line, variable_line, variable_lines, solved_lines, refusal_line, answer_lines};
+ghost use Rattle.nra.specs.Calls.{solve_file};
+ghost use Rattle.settings.specs.Settings.{usual};
 
 use nra::answer::{Solved, Stop};
+use std::io;
+use std::io::Write;
 
 fn digit(d: u8) -> u8
     requires { d < 16 }
@@ -26,84 +36,103 @@ fn hex(bits: u64) -> [u8; 16]
     text
 }
 
-fn print_bits(x: f64) {
+fn print_bits<W: Write>(out: &mut W, x: f64) -> io::Result<()>
+    ensures { OnOk result (Appends (W.contents out.old) (W.contents out.new) (bits_line x)) }
+{
     let text = hex(number::bits_of(x));
-    io::write_all(1, &text);
-    io::write_all(1, b"\n");
+    out.write_all(&text)?;
+    writeln!(out)
 }
 
-fn print_count(n: usize) {
-    io::print_decimal(1, n as u64);
+fn print_count<W: Write>(out: &mut W, n: usize) -> io::Result<()>
+    ensures { OnOk result (Appends (W.contents out.old) (W.contents out.new) (decimal n)) }
+{
+    write!(out, "{n}")
 }
 
-fn print_stop(stop: Stop) {
-    match stop {
-        Stop::Assignment => io::write_all(1, b"assignment\n"),
-        Stop::Conflict => io::write_all(1, b"conflict\n"),
-        Stop::Tolerance => io::write_all(1, b"tolerance\n"),
-        Stop::Limit => io::write_all(1, b"limit\n"),
-        Stop::Unsatisfied => io::write_all(1, b"unsatisfied\n"),
+fn print_stop<W: Write>(out: &mut W, stop: Stop) -> io::Result<()>
+    ensures { OnOk result (Appends (W.contents out.old) (W.contents out.new) (stop_word stop ++ end)) }
+{
+    let word = match stop {
+        Stop::Assignment => "assignment",
+        Stop::Conflict => "conflict",
+        Stop::Tolerance => "tolerance",
+        Stop::Limit => "limit",
+        Stop::Unsatisfied => "unsatisfied",
     };
+    writeln!(out, "{word}")
 }
 
 // "exact" of an assignment, "best" of any other answer.
-fn print_quality(stop: Stop, exact: bool, residual: f64) {
+fn print_quality<W: Write>(out: &mut W, stop: Stop, exact: bool, residual: f64) -> io::Result<()>
+    ensures { OnOk result (Appends (W.contents out.old) (W.contents out.new) (quality_line stop exact residual)) }
+{
     let Stop::Assignment = stop else {
-        io::write_all(1, b"best ");
-        print_bits(residual);
-        return;
+        write!(out, "best ")?;
+        return print_bits(out, residual);
     };
     if exact {
-        io::write_all(1, b"exact 1\n");
+        writeln!(out, "exact 1")
     } else {
-        io::write_all(1, b"exact 0\n");
+        writeln!(out, "exact 0")
     }
 }
 
-fn print_variable(i: usize, x: f64) {
-    io::write_all(1, b"v");
-    print_count(i);
-    io::write_all(1, b" ");
-    print_bits(x);
-}
-
-fn print_variables(point: [f64; 16], count: usize)
-    requires { count ≤ length point }
+fn print_variable<W: Write>(out: &mut W, i: usize, x: f64) -> io::Result<()>
+    ensures { OnOk result (Appends (W.contents out.old) (W.contents out.new) (variable_line i x)) }
 {
-    let mut i: usize = 0;
-    while i < count {
-        print_variable(i, point[i]);
-        i += 1;
-    }
+    write!(out, "v")?;
+    print_count(out, i)?;
+    write!(out, " ")?;
+    print_bits(out, x)
 }
 
-fn print_solved(s: Solved)
+fn print_variables<W: Write>(out: &mut W, point: [f64; 16], count: usize) -> io::Result<()>
+    requires { count ≤ length point }
+    ensures { OnOk result (Appends (W.contents out.old) (W.contents out.new) (variable_lines count point)) }
+{
+    for i in 0..count {
+        print_variable(out, i, point[i])?;
+    }
+    Ok(())
+}
+
+fn print_solved<W: Write>(out: &mut W, s: Solved) -> io::Result<()>
     requires { s.count ≤ length s.point }
+    ensures { OnOk result (Appends (W.contents out.old) (W.contents out.new) (solved_lines s)) }
 {
     let stop = s.stop;
-    print_stop(stop);
-    print_quality(stop, s.exact, s.residual);
-    io::write_all(1, b"halvings ");
-    print_count(s.halvings);
-    io::write_all(1, b"\n");
+    print_stop(out, stop)?;
+    print_quality(out, stop, s.exact, s.residual)?;
+    write!(out, "halvings ")?;
+    print_count(out, s.halvings)?;
+    writeln!(out)?;
     let point = s.point;
-    print_variables(point, s.count);
+    print_variables(out, point, s.count)
 }
 
-fn print_refusal(number: u8) {
-    io::write_all(1, b"refused ");
-    io::print_decimal(1, number as u64);
-    io::write_all(1, b"\n");
+fn print_refusal<W: Write>(out: &mut W, number: u8) -> io::Result<()>
+    ensures { OnOk result (Appends (W.contents out.old) (W.contents out.new) (refusal_line number)) }
+{
+    writeln!(out, "refused {number}")
 }
 
-fn main() {
-    // One byte more than the largest file has, so that no longer one is cut down to a legal length.
-    let mut bytes = [0u8; 22817];
-    let n = io::read_full(0, &mut bytes);
-    let s = nra::solve_file(&bytes[..n], 10_000, 1e-8, 16);
+const TOLERANCE: f64 = 1e-8;
+
+// Solves a house file, and prints the answer.
+fn print_answer<W: Write>(out: &mut W, file: &[u8]) -> io::Result<()>
+    ensures { OnOk result (Appends (W.contents out.old) (W.contents out.new) (answer_lines (solve_file usual file.now 10_000 TOLERANCE 16))) }
+{
+    let s = nra::solve_file(file, 10_000, TOLERANCE, 16);
     if s.refusal != 0 {
-        print_refusal(s.refusal);
-        return;
+        return print_refusal(out, s.refusal);
     }
-    print_solved(s);
+    print_solved(out, s)
+}
+
+// Reads a byte more than the largest file has, so that no longer one is cut down to a legal length. A read that fails counts as the end of the file.
+fn main(rt: HostRuntime) -> io::Result<()> {
+    let mut bytes = [0u8; 22_817];
+    let (n, _) = input::read_full(&mut rt.stdin(), &mut bytes);
+    print_answer(&mut rt.stdout(), &bytes[..n])
 }

@@ -1,21 +1,23 @@
 // Replays the examples of document 01 that are not starred, and answers of the reference: reads the cases from standard input, and prints how many
 // came out the same. A case is 176 bytes of what was asked and answered, then the file; reference/src/replay.rs writes them.
+#![tactic(auto)]
+
 ghost use Rattle.std.specs.Prelude.{◌≤◌, length};
 
 use narrow::Propagated;
 use nra::answer::Solved;
+use std::io;
+use std::io::Read;
 
 // The point's 16 places against their bits, from byte 48 on.
 fn is_same_point(s: Solved, head: &[u8]) -> bool
     requires { 176 ≤ length head.now }
 {
     let point = s.point;
-    let mut i: usize = 0;
-    while i < 16 {
+    for i in 0..16 {
         if number::bits_of(point[i]) != record::read_u64(head, 48 + 8 * i) {
             return false;
         }
-        i += 1;
     }
     true
 }
@@ -35,10 +37,10 @@ fn is_same(s: Solved, head: &[u8]) -> bool
 }
 
 // Reads the file, and solves it. Byte 8 has the limit, 16 the tolerance.
-fn replays(file: &mut [u8], head: &[u8]) -> bool
+fn replays<R: Read>(reader: &mut R, file: &mut [u8], head: &[u8]) -> bool
     requires { 176 ≤ length head.now }
 {
-    let got = io::read_full(0, file);
+    let (got, _) = input::read_full(reader, file);
     let limit = record::read_u64(head, 8) as usize;
     let s = nra::solve_file(&file[..got], limit, record::read_f64(head, 16), 16);
     is_same(s, head)
@@ -54,18 +56,17 @@ impl Count {
     fn and(self, same: bool) -> Count {
         let one: u64 = if same { 1 } else { 0 };
         Count {
-            same: std::num::wrapping_add_u64(self.same, one),
-            of: std::num::wrapping_add_u64(self.of, 1),
+            same: self.same.wrapping_add(one),
+            of: self.of.wrapping_add(1),
         }
     }
 }
 
-fn print_count(name: &[u8], c: Count) {
-    io::write_all(1, name);
-    io::print_decimal(1, c.same);
-    io::write_all(1, b" of ");
-    io::print_decimal(1, c.of);
-    io::write_all(1, b" the same\n");
+fn print_count(rt: &impl Print, name: &[u8], c: Count) -> io::Result<()> {
+    rt.write_all(name)?;
+    let same = c.same;
+    let of = c.of;
+    println!(rt; "{same} of {of} the same")
 }
 
 // GtZero of Var 0 in these boxes: the refusal, or 0.
@@ -97,17 +98,18 @@ enum Case {
 }
 
 // Byte 0 has the file's length, 4 is 0 for an example.
-fn next_case(head: &mut [u8], file: &mut [u8]) -> Case
+fn next_case<R: Read>(reader: &mut R, head: &mut [u8], file: &mut [u8]) -> Case
     requires { 176 ≤ length head.old }
 {
-    if io::read_full(0, head) < 176 {
+    let (got, _) = input::read_full(reader, head);
+    if got < 176 {
         return Case::End;
     }
     let n = record::read_u32(head, 0) as usize;
     if file.len() < n {
         return Case::End;
     }
-    let same = replays(&mut file[..n], head);
+    let same = replays(reader, &mut file[..n], head);
     if head[4] == 0 {
         return Case::Example(same);
     }
@@ -146,7 +148,7 @@ impl Counts {
 }
 
 // At most 10,000 cases, so that the loop ends.
-fn replay_all(head: &mut [u8], file: &mut [u8]) -> Counts
+fn replay_all<R: Read>(reader: &mut R, head: &mut [u8], file: &mut [u8]) -> Counts
     requires { 176 ≤ length head.old }
 {
     let none = Count { same: 0, of: 0 };
@@ -155,19 +157,20 @@ fn replay_all(head: &mut [u8], file: &mut [u8]) -> Counts
         answers: none,
         more: true,
     };
-    let mut turns: u64 = 10_000;
-    while turns > 0 && counts.more {
-        counts = counts.and(next_case(head, file));
-        turns -= 1;
+    for _ in 0..10_000 {
+        counts = counts.and(next_case(reader, head, file));
+        if !counts.more {
+            break;
+        }
     }
     counts
 }
 
-fn main() {
-    let counts = replay_all(&mut [0u8; 176], &mut [0u8; 22816]);
+fn main(rt: HostRuntime) -> io::Result<()> {
+    let counts = replay_all(&mut rt.stdin(), &mut [0u8; 176], &mut [0u8; 22816]);
     let mut examples = counts.examples;
     examples = examples.and(is_sixteen_taken());
     examples = examples.and(is_seventeen_refused());
-    print_count(b"examples: ", examples);
-    print_count(b"answers of the reference: ", counts.answers);
+    print_count(&rt, b"examples: ", examples)?;
+    print_count(&rt, b"answers of the reference: ", counts.answers)
 }
