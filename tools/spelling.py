@@ -30,6 +30,19 @@ def spelled(name):
     return re.sub(r"(?<=\w)-(?=[\w≤])|(?<=[\w≤≥'])-(?=\w)", "_", name)
 
 
+def conditional(path, text):
+    """The repository's own `if b then x else y` is `when b then x else y`: the library has one of the old name, which is open to every proof."""
+    if "if◌then◌else◌" not in text:
+        return text
+    text = text.replace("if◌then◌else◌", "when◌then◌else◌")
+    lines = text.split("\n")
+    for i, line in enumerate(lines):
+        if path.endswith(".antt") or re.match(r" *(ensures|requires)\b", line):
+            code, dashes, comment = line.partition("--") if path.endswith(".antt") and line.lstrip().startswith("--") else (line, "", "")
+            lines[i] = re.sub(r"(?<![^\s(])if (?=\S)", "when ", code) + dashes + comment
+    return "\n".join(lines)
+
+
 def files(*ends):
     listed = subprocess.run(["git", "ls-files", "--cached", "--others", "--exclude-standard"], capture_output=True, text=True, check=True).stdout
     return [f for f in listed.splitlines() if f.endswith(ends) and os.path.exists(f)]
@@ -72,7 +85,7 @@ def main():
             in_path = m.string[m.start() - 1 : m.start()] == "." or m.string[m.end() : m.end() + 1] == "."
             return w if in_path and w in TWICE else scope.get(w, w)
 
-        new = TOKEN.sub(turn, t)
+        new = conditional(f, TOKEN.sub(turn, t))
         if new != t and "--check" not in sys.argv:
             open(f, "w", encoding="utf-8").write(new)
     print(f"spelling: {len(turned)} names turned")

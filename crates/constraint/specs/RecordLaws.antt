@@ -10,7 +10,7 @@ use Rattle.std.specs.Float.{binary64}
 use Rattle.std.specs.Float.Ieee.{fits}
 use Rattle.std.specs.Float.Ieee.Bits.{of_bits-fits}
 use Rattle.std.proofs.Math.ListN.{length}
-use Rattle.number.specs.Notation.{if◌then◌else◌}
+use Rattle.number.specs.Notation.{when◌then◌else◌}
 use Rattle.record.specs.Bytes.{u32_at, u64_at, f64_at}
 use Rattle.record.specs.Refusal.{◌unless◌, first, filled}
 use Rattle.record.specs.RefusalLaws.{both, none_both, none_unless, none_of_each, passing_all, length_filled, filled_at}
@@ -35,9 +35,9 @@ Right n (Record.ForAll v lo hi) = (v < 16) × T (fits binary64 lo) × T (fits bi
 Right n (Record.Exists v lo hi) = (v < 16) × T (fits binary64 lo) × T (fits binary64 hi)
 
 right_of : (n arg : ℕ) (rel : Relation) (lo hi : Float) → T (fits binary64 lo) → T (fits binary64 hi) → (atom not and or forall exists arg0 blank : Bool) →
-    (if atom then ltb arg n && blank else if not then arg0 && blank else if and then blank else if or then blank else if forall then ltb arg 16 else if exists then ltb arg 16 else false) ≡ true →
-    Right n (if atom then Record.Atom rel arg else if not then Record.Not else if and then Record.And arg else if or then Record.Or arg else if forall then Record.ForAll arg lo hi else Record.Exists arg lo hi)
-unfolding if◌then◌else◌
+    (when atom then ltb arg n && blank else when not then arg0 && blank else when and then blank else when or then blank else when forall then ltb arg 16 else when exists then ltb arg 16 else false) ≡ true →
+    Right n (when atom then Record.Atom rel arg else when not then Record.Not else when and then Record.And arg else when or then Record.Or arg else when forall then Record.ForAll arg lo hi else Record.Exists arg lo hi)
+unfolding when◌then◌else◌
 right_of n arg rel lo hi l h true not and or forall exists arg0 blank e = ltb-true arg n (both (ltb arg n) blank e).0
 right_of n arg rel lo hi l h false true and or forall exists arg0 blank e = tt
 right_of n arg rel lo hi l h false false true or forall exists arg0 blank e = tt

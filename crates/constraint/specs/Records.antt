@@ -1,7 +1,7 @@
 -- Constraint records (document 01, "The file"): 24 bytes each, in postorder. The kind and its three zeros are read as one u32.
 use Rattle.std.specs.Prelude.{ℕ, zero, suc, ◌+◌, ◌*◌, ◌-◌, Bool, true, false, ◌&&◌, List, [], ◌∷◌, ◌++◌, leb, ltb, eqb, length, get_or, take, drop}
 use Rattle.std.specs.Float.{binary64}
-use Rattle.number.specs.Notation.{if◌then◌else◌}
+use Rattle.number.specs.Notation.{when◌then◌else◌}
 use Rattle.number.specs.Sound.{sound}
 use Rattle.record.specs.Bytes.{u32_at, u64_at, f64_at}
 use Rattle.record.specs.Refusal.{◌or_else◌, ◌unless◌, first}
@@ -13,11 +13,11 @@ use Rattle.constraint.specs.declared.Record.{Record}
 -- kinds 0 to 5
 unfoldable pub relation_of : ℕ → Relation
 relation_of kind =
-    if eqb kind 0 then Relation.EqZero
-    else if eqb kind 1 then Relation.GtZero
-    else if eqb kind 2 then Relation.GeZero
-    else if eqb kind 3 then Relation.LtZero
-    else if eqb kind 4 then Relation.LeZero
+    when eqb kind 0 then Relation.EqZero
+    else when eqb kind 1 then Relation.GtZero
+    else when eqb kind 2 then Relation.GeZero
+    else when eqb kind 3 then Relation.LtZero
+    else when eqb kind 4 then Relation.LeZero
     else Relation.NeZero
 
 -- what record k says, read with no test
@@ -26,11 +26,11 @@ record_at b k =
     let at = 24 * k in
     let kind = u32_at b at in
     let arg = u32_at b (at + 4) in
-    if ltb kind 6 then Record.Atom (relation_of kind) arg
-    else if eqb kind 6 then Record.Not
-    else if eqb kind 7 then Record.And arg
-    else if eqb kind 8 then Record.Or arg
-    else if eqb kind 9 then Record.ForAll arg (f64_at b (at + 8)) (f64_at b (at + 16))
+    when ltb kind 6 then Record.Atom (relation_of kind) arg
+    else when eqb kind 6 then Record.Not
+    else when eqb kind 7 then Record.And arg
+    else when eqb kind 8 then Record.Or arg
+    else when eqb kind 9 then Record.ForAll arg (f64_at b (at + 8)) (f64_at b (at + 16))
     else Record.Exists arg (f64_at b (at + 8)) (f64_at b (at + 16))
 
 -- whether it is a constraint record over n nodes: an atom's argument a node, Not's 0, a quantifier's 0..15; lo and hi zero bytes outside 9 and 10
@@ -40,12 +40,12 @@ is_record n b k =
     let kind = u32_at b at in
     let arg = u32_at b (at + 4) in
     let blank = eqb (u64_at b (at + 8)) 0 && eqb (u64_at b (at + 16)) 0 in
-    if ltb kind 6 then ltb arg n && blank
-    else if eqb kind 6 then eqb arg 0 && blank
-    else if eqb kind 7 then blank
-    else if eqb kind 8 then blank
-    else if eqb kind 9 then ltb arg 16
-    else if eqb kind 10 then ltb arg 16
+    when ltb kind 6 then ltb arg n && blank
+    else when eqb kind 6 then eqb arg 0 && blank
+    else when eqb kind 7 then blank
+    else when eqb kind 8 then blank
+    else when eqb kind 9 then ltb arg 16
+    else when eqb kind 10 then ltb arg 16
     else false
 
 -- a quantifier's range

@@ -7,7 +7,7 @@ use borrow.Author.Tests.{lt-ltb, leb-true}
 use Rattle.std.specs.Float.Ieee.{binary64, to_bits, fits}
 use Rattle.std.specs.Float.Ieee.Bits.{of_bits-to_bits, to_bits-lt}
 use Rattle.std.proofs.Math.ListN.{get_or-append}
-use Rattle.number.specs.Notation.{if◌then◌else◌}
+use Rattle.number.specs.Notation.{when◌then◌else◌}
 use Rattle.record.specs.Bytes.{u32_at, u64_at, f64_at, u32_bytes, u64_bytes}
 use Rattle.record.specs.ByteLaws.{u32_same, u32_read}
 use Rattle.constraint.specs.Records.{relation_of, record_at, is_record}
@@ -95,7 +95,7 @@ kind_small Relation.LeZero = refl
 kind_small Relation.NeZero = refl
 
 kind_back : (rel : Relation) → relation_of (kind_of rel) ≡ rel
-unfolding relation_of if◌then◌else◌
+unfolding relation_of when◌then◌else◌
 kind_back Relation.EqZero = refl
 kind_back Relation.GtZero = refl
 kind_back Relation.GeZero = refl
@@ -109,7 +109,7 @@ bits_small x h = to_bits-lt binary64 x h
 
 module _ (n : ℕ) (few : n ≤ 1024) where
   pub read_back : (r : Record) → Writable n r → record_at (record_bytes r) 0 ≡ r
-  unfolding record_at record_bytes if◌then◌else◌ f64_at
+  unfolding record_at record_bytes when◌then◌else◌ f64_at
   read_back (Record.Atom rel i) h =
       let k = kind_of rel in
       rw (kind_is k i 0 0 (omega (arith, leb-true (suc (kind_of rel)) 6 (kind_small rel))), kind_small rel, kind_back rel, arg_is k i 0 0 (omega arith))
@@ -126,7 +126,7 @@ module _ (n : ℕ) (few : n ≤ 1024) where
       rw (kind_is 10 v x y (omega arith), arg_is 10 v x y (omega (arith, h.0)), lo_is 10 v x y (bits_small lo h.1), hi_is 10 v x y (bits_small hi h.2), of_bits-to_bits binary64 lo h.1, of_bits-to_bits binary64 hi h.2)
 
   pub is_record_lem : (r : Record) → Writable n r → is_record n (record_bytes r) 0 ≡ true
-  unfolding is_record record_bytes if◌then◌else◌
+  unfolding is_record record_bytes when◌then◌else◌
   is_record_lem (Record.Atom rel i) h =
       let k = kind_of rel in
       rw (kind_is k i 0 0 (omega (arith, leb-true (suc (kind_of rel)) 6 (kind_small rel))), kind_small rel, arg_is k i 0 0 (omega arith), lo_is k i 0 0 (omega arith), hi_is k i 0 0 (omega arith), lt-ltb i n h)

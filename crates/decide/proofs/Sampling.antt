@@ -8,7 +8,7 @@ use native.Mathlib.Omega.{arith}
 use lib.Ieee.{Float, nan, neg}
 use lib.ListN.{length, get_or, set, take, drop, replicate, length-replicate, replicate-append-replicate, drop_of_length-le}
 use lib.Seq.{drop-cons, set-append_left, set_out, take_at}
-use Rattle.number.specs.Notation.{if◌then◌else◌, whole}
+use Rattle.number.specs.Notation.{when◌then◌else◌, whole}
 use Rattle.settings.specs.declared.Settings.{Settings}
 use Rattle.interval.specs.declared.Interval.{Interval}
 use Rattle.interval.specs.Interval.{◌‥◌}
@@ -83,18 +83,18 @@ module _ (σ : Settings) (c : Constraint) {p q : List Float} {wanted passes : Bo
 
 -- ---- the first sample that meets the test, from sample i on
 module _ (test : Float → Bool) (samples : List Float) (i : ℕ) {f : Found} (left : first test (drop i samples) ≡ f) where
-  step : (t : Bool) → i < length samples → test (get_or samples i nan) ≡ t → (if t then At (get_or samples i nan) else first test (drop (i + 1) samples)) ≡ f
+  step : (t : Bool) → i < length samples → test (get_or samples i nan) ≡ t → (when t then At (get_or samples i nan) else first test (drop (i + 1) samples)) ≡ f
   unfolding first
   step t h e =
-      ap (λ (k : Bool). if k then At (get_or samples i nan) else first test (drop (i + 1) samples)) (sym e)
+      ap (λ (k : Bool). when k then At (get_or samples i nan) else first test (drop (i + 1) samples)) (sym e)
       ∙ sym (ap (first test) (drop-cons samples i nan h ∙ ap (λ (k : ℕ). get_or samples i nan ∷ drop k samples) (sym (add-one i)))) ∙ left
 
   pub found : i < length samples → {t : Bool} → t ≡ test (get_or samples i nan) → t ≡ true → At (get_or samples i nan) ≡ f
-  unfolding if◌then◌else◌
+  unfolding when◌then◌else◌
   found h e t = step true h (sym e ∙ t)
 
   pub passed_over : i < length samples → {t : Bool} → t ≡ test (get_or samples i nan) → t ≡ false → first test (drop (i + 1) samples) ≡ f
-  unfolding if◌then◌else◌
+  unfolding when◌then◌else◌
   passed_over h e t = step false h (sym e ∙ t)
 
   pub found_none : length samples ≤ i → Nowhere ≡ f

@@ -2,7 +2,7 @@
 use Rattle.std.specs.Prelude.{ℕ, ◌^◌, Bool, true, false, not, ◌&&◌, List, [], ◌∷◌, leb, length, replicate, set, Float}
 use Rattle.std.specs.Float.{binary64}
 use Rattle.std.specs.Float.Ieee.{neg}
-use Rattle.number.specs.Notation.{if◌then◌else◌, whole, decimal, ◌⊕◌, ◌⊖◌, ◌⊗◌}
+use Rattle.number.specs.Notation.{when◌then◌else◌, whole, decimal, ◌⊕◌, ◌⊖◌, ◌⊗◌}
 use Rattle.number.specs.Halving.{mid}
 use Rattle.number.specs.Sound.{sound}
 use Rattle.settings.specs.declared.Settings.{Settings}
@@ -46,7 +46,7 @@ exists_samples lo hi =
 -- the first of them that meets the test
 unfoldable pub first : (Float → Bool) → List Float → Found
 first test [] = Nowhere
-first test (x ∷ xs) = if test x then At x else first test xs
+first test (x ∷ xs) = when test x then At x else first test xs
 
 -- ---- the decisions
 

@@ -12,7 +12,7 @@ use Rattle.std.proofs.Math.ListN.{length}
 use Rattle.std.proofs.lemmas.List.{length-replicate}
 use Rattle.std.proofs.Math.Seq.{take-append_seam}
 use Rattle.std.specs.Float.{binary64}
-use Rattle.number.specs.Notation.{if◌then◌else◌, whole}
+use Rattle.number.specs.Notation.{when◌then◌else◌, whole}
 use Rattle.number.specs.Sound.{sound}
 use Rattle.record.specs.Refusal.{◌unless◌}
 use Rattle.record.specs.RefusalLaws.{both, none_both, none_unless}
@@ -40,11 +40,11 @@ point_length n v x = length-set (replicate n (whole 0)) v x ∙ length-replicate
 
 -- the sample that is found meets the test
 first_meets : (test : Float → Bool) (xs : List Float) (x : Float) → first test xs ≡ At x → test x ≡ true
-unfolding first if◌then◌else◌
+unfolding first when◌then◌else◌
 first_meets test [] x e = absurd (let z : ◌≡◌ {A = ℕ} 0 1 = cc in omega arith)
 first_meets test (y ∷ ys) x e = by (test y) refl (λ q. first_meets test ys x q) e
   where
-    by : (t : Bool) → test y ≡ t → (first test ys ≡ At x → test x ≡ true) → (if t then At y else first test ys) ≡ At x → test x ≡ true
+    by : (t : Bool) → test y ≡ t → (first test ys ≡ At x → test x ≡ true) → (when t then At y else first test ys) ≡ At x → test x ≡ true
     by true q later e = let z : y ≡ x = cc in subst (λ (u : Float). test u ≡ true) z q
     by false q later e = later e
 

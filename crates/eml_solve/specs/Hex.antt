@@ -1,10 +1,10 @@
 -- Bits as document 01 prints them: 16 hexadecimal digits, letters in capitals.
 use Rattle.std.specs.Prelude.{ℕ, zero, suc, ◌+◌, ◌/◌, ◌%◌, List, [], ◌∷◌, ◌++◌, ltb}
-use Rattle.number.specs.Notation.{if◌then◌else◌}
+use Rattle.number.specs.Notation.{when◌then◌else◌}
 
 -- the code of a digit below 16: `0` to `9`, then `A` to `F`
 abbrev pub glyph : ℕ → ℕ
-glyph d = if ltb d 10 then 48 + d else 55 + d
+glyph d = when ltb d 10 then 48 + d else 55 + d
 
 -- the last k digits of n, the most significant first
 unfoldable pub digits : ℕ → ℕ → List ℕ

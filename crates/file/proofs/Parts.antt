@@ -8,7 +8,7 @@ use borrow.Author.Tests.{ne_eqb}
 use lib.Dec.{eqb}
 use lib.ListN.{length, take, drop, length-drop}
 use lib.Seq.{take_all}
-use Rattle.number.specs.Notation.{if◌then◌else◌}
+use Rattle.number.specs.Notation.{when◌then◌else◌}
 use Rattle.record.specs.Refusal.{◌or_else◌, first}
 use Rattle.record.specs.RefusalLaws.{or_else_refused, or_else_none}
 use Rattle.tree.specs.Nodes.{nodes_refusal, nodes_fit, list_refusal}
@@ -51,23 +51,23 @@ module _ (nodes : List ℕ) (count : ℕ) (fit : nodes_fit (length nodes) count 
   A = nodes_refusal nodes count
 
   abbrev starts : List ℕ
-  starts = if eqb A 0 then starts_of count b n old else old
+  starts = when eqb A 0 then starts_of count b n old else old
 
   module _ (r : ℕ) (e : r ≡ list_refusal nodes count) where
     nodes_are : r ≡ A
     nodes_are = e ∙ list_is nodes count fit
 
     at_nodes : (x : ℕ) → (r ≡ 0 → ⊥) → (r ≡ (A or_else x)) × (old ≡ starts)
-    unfolding if◌then◌else◌
-    at_nodes x h = (here r A x nodes_are h, sym (ap (λ (t : Bool). if t then starts_of count b n old else old) (ne_eqb A 0 (λ z. h (nodes_are ∙ z)))))
+    unfolding when◌then◌else◌
+    at_nodes x h = (here r A x nodes_are h, sym (ap (λ (t : Bool). when t then starts_of count b n old else old) (ne_eqb A 0 (λ z. h (nodes_are ∙ z)))))
 
     module _ (z : r ≡ 0) where
       none_yet : A ≡ 0
       none_yet = sym nodes_are ∙ z
 
       kept : (a : List ℕ) → a ≡ starts_of count b n old → a ≡ starts
-      unfolding if◌then◌else◌
-      kept a e = e ∙ sym (ap (λ (i : ℕ). if eqb i 0 then starts_of count b n old else old) none_yet)
+      unfolding when◌then◌else◌
+      kept a e = e ∙ sym (ap (λ (i : ℕ). when eqb i 0 then starts_of count b n old else old) none_yet)
 
 -- ---- the bodies of a file
 module _ (file old : List ℕ) (l : Laid file) (nodes : List ℕ) (count : ℕ) (en : nodes ≡ nodes_of file) (ec : count ≡ node_count file) (r : ℕ) (e : r ≡ list_refusal nodes count) where
@@ -112,26 +112,26 @@ module _ (file old : List ℕ) (l : Laid file) (nodes : List ℕ) (count : ℕ) 
 -- ---- a file, by its two first tests
 module _ (file old : List ℕ) where
   pub no_head : is_headed file ≡ false → (1 ≡ refusal file) × (old ≡ file_starts file old)
-  unfolding refusal file_starts if◌then◌else◌
+  unfolding refusal file_starts when◌then◌else◌
   no_head e = (simp e, simp e)
 
   module _ (h : is_headed file ≡ true) where
     pub no_layout : is_laid_out file ≡ false → (2 ≡ refusal file) × (old ≡ file_starts file old)
-    unfolding refusal file_starts if◌then◌else◌
+    unfolding refusal file_starts when◌then◌else◌
     no_layout e = (simp (h, e), simp (h, e))
 
     pub by_bodies : is_laid_out file ≡ true → (r : ℕ) (a : List ℕ) → r ≡ bodies_refusal file → a ≡ bodies_starts file old → (r ≡ refusal file) × (a ≡ file_starts file old)
-    unfolding refusal bodies_refusal file_starts if◌then◌else◌
+    unfolding refusal bodies_refusal file_starts when◌then◌else◌
     by_bodies l r a e s = (e ∙ simp (h, l), s ∙ simp (h, l))
 
 -- ---- records given
 pub given_largest_lem : (nodes b : List ℕ) → is_counted nodes b ≡ true → list_largest nodes (length nodes / 16) ≡ given_largest nodes b
-unfolding given_largest if◌then◌else◌
+unfolding given_largest when◌then◌else◌
 given_largest_lem nodes b e = simp e
 
 module _ (nodes b old : List ℕ) where
   pub not_counted : is_counted nodes b ≡ false → (2 ≡ given_refusal nodes b) × ((old ≡ given_starts nodes b old) × (0 ≡ given_largest nodes b))
-  unfolding given_refusal given_starts given_largest if◌then◌else◌
+  unfolding given_refusal given_starts given_largest when◌then◌else◌
   not_counted e = (simp e, (simp e, simp e))
 
   module _ (e : is_counted nodes b ≡ true) (r : ℕ) (el : r ≡ list_refusal nodes (length nodes / 16)) where

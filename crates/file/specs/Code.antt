@@ -1,6 +1,6 @@
 -- What a file's contents say of its parts, and what the tests leave in `starts`.
 use Rattle.std.specs.Prelude.{ℕ, ◌+◌, ◌*◌, ◌/◌, ◌≤◌, ◌≡◌, ◌&&◌, List, eqb, length}
-use Rattle.number.specs.Notation.{if◌then◌else◌}
+use Rattle.number.specs.Notation.{when◌then◌else◌}
 use Rattle.record.specs.Refusal.{◌or_else◌, first}
 use Rattle.tree.specs.Nodes.{nodes_refusal}
 use Rattle.tree.specs.Code.{list_largest}
@@ -24,19 +24,19 @@ bodies_refusal file =
 -- the first record of each constraint that passes, where the nodes do
 unfoldable pub bodies_starts : List ℕ → List ℕ → List ℕ
 bodies_starts file old =
-    if eqb (nodes_refusal (nodes_of file) (node_count file)) 0
+    when eqb (nodes_refusal (nodes_of file) (node_count file)) 0
     then starts_of (node_count file) (constraints_of file) (constraint_count file) old
     else old
 
 unfoldable pub file_starts : List ℕ → List ℕ → List ℕ
-file_starts file old = if is_headed file && is_laid_out file then bodies_starts file old else old
+file_starts file old = when is_headed file && is_laid_out file then bodies_starts file old else old
 
 -- the size of the largest tree of given nodes that pass
 unfoldable pub given_largest : List ℕ → List ℕ → ℕ
-given_largest nodes b = if is_counted nodes b then list_largest nodes (length nodes / 16) else 0
+given_largest nodes b = when is_counted nodes b then list_largest nodes (length nodes / 16) else 0
 
 unfoldable pub given_starts : List ℕ → List ℕ → List ℕ → List ℕ
 given_starts nodes b old =
-    if is_counted nodes b && eqb (nodes_refusal nodes (length nodes / 16)) 0
+    when is_counted nodes b && eqb (nodes_refusal nodes (length nodes / 16)) 0
     then starts_of (length nodes / 16) b (length b / 24) old
     else old

@@ -5,7 +5,7 @@ use borrow.Author.Tests.{leb-true, eqb-true, le-leb}
 use Rattle.std.specs.Float.{binary64}
 use Rattle.std.proofs.Math.ListN.{length-drop}
 use Rattle.number.specs.Sound.{sound}
-use Rattle.number.specs.Notation.{if◌then◌else◌}
+use Rattle.number.specs.Notation.{when◌then◌else◌}
 use Rattle.record.specs.Bytes.{u32_at}
 use Rattle.record.specs.Refusal.{◌unless◌, first}
 use Rattle.record.specs.RefusalLaws.{is_refused, both, none_both, none_unless, none_of_each}
@@ -120,7 +120,7 @@ module _ (file : List ℕ) (e : refusal file ≡ 0) where
   bound_sound k l = none_unless 5 _ (none_of_each (bound_refusal (bounds_of file)) (bound_count file) passed.4 k l)
 
   starts_are : (old : List ℕ) → file_starts file old ≡ starts_of (node_count file) (constraints_of file) (constraint_count file) old
-  unfolding file_starts bodies_starts if◌then◌else◌
+  unfolding file_starts bodies_starts when◌then◌else◌
   starts_are old = rw (passed.0, passed.1, passed.2)
 
   pub file_ready : (old starts : List ℕ) → length old ≡ 256 → starts ≡ file_starts file old → Ready (nodes_of file) (constraints_of file) (constraint_count file) starts
@@ -155,7 +155,7 @@ module _ (nodes b : List ℕ) (e : given_refusal nodes b ≡ 0) where
   given_valid = list_valid nodes (length nodes / 16) (list_is nodes (length nodes / 16) (given_fit nodes (counted nodes b passed_given.0).0) ∙ passed_given.1)
 
   pub given_within : {m : ℕ} → m ≡ given_largest nodes b → Within nodes (length nodes / 16) m
-  unfolding given_largest if◌then◌else◌
+  unfolding given_largest when◌then◌else◌
   given_within q =
       list_within nodes (length nodes / 16) (list_is nodes (length nodes / 16) (given_fit nodes (counted nodes b passed_given.0).0) ∙ passed_given.1)
       (q ∙ rw passed_given.0)
@@ -164,7 +164,7 @@ module _ (nodes b : List ℕ) (e : given_refusal nodes b ≡ 0) where
   some_given = (only_left (length nodes / 16) b (length b / 24) passed_given.2).0
 
   given_starts_lem : (old : List ℕ) → given_starts nodes b old ≡ starts_of (length nodes / 16) b (length b / 24) old
-  unfolding given_starts if◌then◌else◌
+  unfolding given_starts when◌then◌else◌
   given_starts_lem old = rw (passed_given.0, passed_given.1)
 
   pub given_ready : (old starts : List ℕ) → length old ≡ 256 → starts ≡ given_starts nodes b old → Ready nodes b (length b / 24) starts

@@ -10,7 +10,7 @@ use lib.Ieee.{Float, nan, binary64}
 use lib.ListN.{length, get_or, set, take, drop, replicate, drop_of_length-le}
 use lib.Seq.{length-take-le, take-suc, take_all, drop-cons, set_at, append_snoc}
 use Rattle.number.specs.Sound.{sound}
-use Rattle.number.specs.Notation.{if◌then◌else◌, ◌≺◌, whole}
+use Rattle.number.specs.Notation.{when◌then◌else◌, ◌≺◌, whole}
 use Rattle.interval.specs.Interval.{◌‥◌, is_empty, width, midpoint}
 use Rattle.interval.specs.Boxes.{intervals, missing, midpoints, all_below, widest_from, widest, padded, any_empty, all_sound}
 use Rattle.interval.specs.BoxLaws.{intervals_at, intervals_length, first_at, first_length, midpoints_length}
@@ -104,20 +104,20 @@ module _ (b : List Interval) (i : ℕ) where
 
   module _ (at : ℕ) (most : Float) {r : ℕ} (inv : widest_from at most i (drop i b) ≡ r) where
     by_test : (k : Bool) → i < length b → (width (get_or b i missing) ≺ most) ≡ k
-        → widest_from (if k then at else i) (if k then most else width (get_or b i missing)) (i + 1) (drop (i + 1) b) ≡ r
+        → widest_from (when k then at else i) (when k then most else width (get_or b i missing)) (i + 1) (drop (i + 1) b) ≡ r
     unfolding widest_from
     by_test k h w =
         sym (ap (widest_from at most i) (after h)
-        ∙ ap (λ (t : Bool). widest_from (if t then at else i) (if t then most else width (get_or b i missing)) (suc i) (drop (i + 1) b)) w
-        ∙ ap (λ (n : ℕ). widest_from (if k then at else i) (if k then most else width (get_or b i missing)) n (drop (i + 1) b)) (sym (add-one i)))
+        ∙ ap (λ (t : Bool). widest_from (when t then at else i) (when t then most else width (get_or b i missing)) (suc i) (drop (i + 1) b)) w
+        ∙ ap (λ (n : ℕ). widest_from (when k then at else i) (when k then most else width (get_or b i missing)) n (drop (i + 1) b)) (sym (add-one i)))
         ∙ inv
 
     pub widest_keep : i < length b → (width (get_or b i missing) ≺ most) ≡ true → widest_from at most (i + 1) (drop (i + 1) b) ≡ r
-    unfolding if◌then◌else◌
+    unfolding when◌then◌else◌
     widest_keep h w = by_test true h w
 
     pub widest_take : i < length b → (width (get_or b i missing) ≺ most) ≡ false → widest_from i (width (get_or b i missing)) (i + 1) (drop (i + 1) b) ≡ r
-    unfolding if◌then◌else◌
+    unfolding when◌then◌else◌
     widest_take h w = by_test false h w
 
     pub widest_done : length b ≤ i → at ≡ r

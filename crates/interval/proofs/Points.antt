@@ -5,7 +5,7 @@ use mathlib.Core.Logic.{◌⊎◌, ⊎_elim}
 use lib.Dec.{T}
 use lib.Ieee.{Float, binary64, eq, le, fits, of_int}
 use lib.Ieee.Bits.{is_true}
-use Rattle.number.specs.Notation.{if◌then◌else◌, whole}
+use Rattle.number.specs.Notation.{when◌then◌else◌, whole}
 use Rattle.number.specs.Order.{naught, passed, eq→le}
 use Rattle.number.specs.Pattern.{eq_same}
 use Rattle.maths.specs.Exp.{exp_of}
@@ -29,5 +29,5 @@ module _ (i : Interval) (h : T (fits binary64 i.lo)) (k : T (fits binary64 i.hi)
   point_exp d = ap₂ ◌‥◌ d (d ∙ ⊎_elim (ap exp_of) (λ w. exp_zero i.lo h w.0 ∙ sym (exp_zero i.hi k w.1)) same)
 
   pub point_ln : has_ln i ≡ true → z ≡ ln_of i.lo → (z ‥ z) ≡ ln i
-  unfolding ln if◌then◌else◌
+  unfolding ln when◌then◌else◌
   point_ln g d = rw g (ap₂ ◌‥◌ d (d ∙ ⊎_elim (ap ln_of) (λ w. absurd (above i g (eq→le i.lo naught w.0))) same))

@@ -2,7 +2,7 @@
 use Rattle.std.specs.Prelude.{ℕ, zero, suc, ◌-◌, Bool, true, false, ◌&&◌, ◌||◌, List, [], ◌∷◌, ◌++◌, negsuc, leb, eqb, Float, length, take, replicate}
 use Rattle.std.specs.Float.{binary64}
 use Rattle.number.specs.Sound.{sound}
-use Rattle.number.specs.Notation.{if◌then◌else◌, ◌≺◌, whole, integer}
+use Rattle.number.specs.Notation.{when◌then◌else◌, ◌≺◌, whole, integer}
 use Rattle.interval.specs.Interval.{◌‥◌, is_empty, width, midpoint}
 use Rattle.interval.specs.declared.Interval.{Interval}
 use Rattle.interval.specs.declared.Boxes.{Boxes}
@@ -34,7 +34,7 @@ all_below ε (i ∷ is) = (width i ≺ ε) && all_below ε is
 -- the number of the last widest interval, from number n on; i is the widest so far, and w its width
 unfoldable pub widest_from : ℕ → Float → ℕ → List Interval → ℕ
 widest_from i w n [] = i
-widest_from i w n (x ∷ xs) = let keep = width x ≺ w in widest_from (if keep then i else n) (if keep then w else width x) (suc n) xs
+widest_from i w n (x ∷ xs) = let keep = width x ≺ w in widest_from (when keep then i else n) (when keep then w else width x) (suc n) xs
 
 unfoldable pub widest : List Interval → ℕ
 widest [] = 0

@@ -2,7 +2,7 @@
 use Rattle.std.specs.Prelude.{Bool, not, ◌&&◌, ◌||◌, Float}
 use Rattle.std.specs.Float.Ieee.{is_nan}
 use Rattle.std.specs.Float.Ieee.Scale.{finite}
-use Rattle.number.specs.Notation.{if◌then◌else◌, ◌⊕◌, ◌⊖◌, ◌⊘◌, ◌≺◌, ◌≼◌, whole, +∞, -∞}
+use Rattle.number.specs.Notation.{when◌then◌else◌, ◌⊕◌, ◌⊖◌, ◌⊘◌, ◌≺◌, ◌≼◌, whole, +∞, -∞}
 use Rattle.number.specs.MaxMin.{max_of, min_of}
 use Rattle.maths.specs.Exp.{exp_of}
 use Rattle.maths.specs.Ln.{ln_of}
@@ -46,7 +46,7 @@ abbrev pub nothing : Interval
 nothing = +∞ ‥ -∞
 
 unfoldable pub ln : Interval → Interval
-ln i = if has_ln i then ln_of i.lo ‥ ln_of i.hi else nothing
+ln i = when has_ln i then ln_of i.lo ‥ ln_of i.hi else nothing
 
 -- ---- what narrowing computes of intervals
 unfoldable pub plus : Interval → Interval → Interval

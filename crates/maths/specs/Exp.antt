@@ -3,7 +3,7 @@ use Rattle.std.specs.Prelude.{ℕ, false, ℤ, negsuc, ◌-ℤ◌, Float}
 use Rattle.std.specs.Int.Signed.{shr_z}
 use Rattle.std.specs.Float.{nan, fin}
 use Rattle.std.specs.Float.Ieee.{is_nan}
-use Rattle.number.specs.Notation.{if◌then◌else◌, ◌⊕◌, ◌⊖◌, ◌⊗◌, ◌⊘◌, ◌≼◌, bits, whole, integer, +∞}
+use Rattle.number.specs.Notation.{when◌then◌else◌, ◌⊕◌, ◌⊖◌, ◌⊗◌, ◌⊘◌, ◌≼◌, bits, whole, integer, +∞}
 use Rattle.number.specs.Near.{nearest}
 use Rattle.maths.specs.Series.{series}
 
@@ -34,4 +34,4 @@ exp_at x k = scaled (exp_sum ((x ⊖ integer k ⊗ H) ⊖ integer k ⊗ L)) k
 
 -- NaN gives NaN; x >= 710 gives +inf; x <= -746 gives +0. Else k = nearest(x×3FF71547652B82FE)
 unfoldable pub exp_of : Float → Float
-exp_of x = if is_nan x then nan else if whole 710 ≼ x then +∞ else if x ≼ integer (negsuc 745) then whole 0 else exp_at x (nearest (x ⊗ bits 0x3FF71547652B82FE))
+exp_of x = when is_nan x then nan else when whole 710 ≼ x then +∞ else when x ≼ integer (negsuc 745) then whole 0 else exp_at x (nearest (x ⊗ bits 0x3FF71547652B82FE))

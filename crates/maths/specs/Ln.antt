@@ -2,7 +2,7 @@
 use Rattle.std.specs.Prelude.{ℕ, ◌-◌, ◌*◌, ℤ, pos, neg_ℤ, ◌+ℤ◌, Float}
 use Rattle.std.specs.Float.{nan, inf, fin}
 use Rattle.std.specs.Float.Ieee.{is_nan, eq, size}
-use Rattle.number.specs.Notation.{if◌then◌else◌, ◌⊕◌, ◌⊖◌, ◌⊗◌, ◌⊘◌, ◌≺◌, bits, whole, integer, +∞, -∞}
+use Rattle.number.specs.Notation.{when◌then◌else◌, ◌⊕◌, ◌⊖◌, ◌⊗◌, ◌⊘◌, ◌≺◌, bits, whole, integer, +∞, -∞}
 use Rattle.maths.specs.Series.{series}
 use Rattle.maths.specs.Exp.{H, L}
 
@@ -21,7 +21,7 @@ ln_at m e =
 
 -- if m > 3FF6A09E667F3BCD, halve m and add 1 to e
 unfoldable pub ln_from : Float → ℤ → Float
-ln_from m e = if bits 0x3FF6A09E667F3BCD ≺ m then ln_at (m ⊘ whole 2) (e +ℤ pos 1) else ln_at m e
+ln_from m e = when bits 0x3FF6A09E667F3BCD ≺ m then ln_at (m ⊘ whole 2) (e +ℤ pos 1) else ln_at m e
 
 -- x = m×2^e, 1 <= m < 2, for an x that is finite and above zero, subnormals included: `fin s n d` is n×2^d, and n has `size n`
 -- binary digits, so the point goes after the first of them. (What is not finite has no such m and e, and nobody asks.)
@@ -37,4 +37,4 @@ exponent (fin s n d) = d +ℤ pos (size n - 1)
 
 -- NaN and x < 0 give NaN, either zero -inf, +inf itself
 unfoldable pub ln_of : Float → Float
-ln_of x = if is_nan x then nan else if x ≺ whole 0 then nan else if eq x (whole 0) then -∞ else if eq x +∞ then +∞ else ln_from (mantissa x) (exponent x)
+ln_of x = when is_nan x then nan else when x ≺ whole 0 then nan else when eq x (whole 0) then -∞ else when eq x +∞ then +∞ else ln_from (mantissa x) (exponent x)

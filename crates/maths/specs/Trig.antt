@@ -2,7 +2,7 @@
 use Rattle.std.specs.Prelude.{ℕ, ◌+◌, ◌-◌, ◌*◌, ◌%◌, ◌^◌, eqb, ℤ, pos, negsuc, Float}
 use Rattle.std.specs.Float.{nan}
 use Rattle.std.specs.Float.Ieee.{is_nan, neg}
-use Rattle.number.specs.Notation.{if◌then◌else◌, ◌⊕◌, ◌⊖◌, ◌⊗◌, ◌⊘◌, ◌≺◌, bits, whole, integer, decimal}
+use Rattle.number.specs.Notation.{when◌then◌else◌, ◌⊕◌, ◌⊖◌, ◌⊗◌, ◌⊘◌, ◌≺◌, bits, whole, integer, decimal}
 use Rattle.number.specs.Sign.{abs_of}
 use Rattle.number.specs.Near.{nearest}
 use Rattle.maths.specs.declared.Turn.{Turn}
@@ -39,14 +39,14 @@ quarter (negsuc k) = 3 - k % 4
 
 -- NaN or |b| > 2^20 is too far
 unfoldable pub turn_of : Float → Turn
-turn_of b = if is_nan b then Turn.Far else if whole (2 ^ 20) ≺ abs_of b then Turn.Far else Turn.By (quarter (turns b)) (rest b (turns b))
+turn_of b = when is_nan b then Turn.Far else when whole (2 ^ 20) ≺ abs_of b then Turn.Far else Turn.By (quarter (turns b)) (rest b (turns b))
 
 -- by n mod 4: sin is s, C, -s, -C; cos is C, -s, -C, s
 unfoldable pub sin_by : ℕ → Float → Float
-sin_by q r = if eqb q 0 then sin_at r else if eqb q 1 then cos_at r else if eqb q 2 then neg (sin_at r) else neg (cos_at r)
+sin_by q r = when eqb q 0 then sin_at r else when eqb q 1 then cos_at r else when eqb q 2 then neg (sin_at r) else neg (cos_at r)
 
 unfoldable pub cos_by : ℕ → Float → Float
-cos_by q r = if eqb q 0 then cos_at r else if eqb q 1 then neg (sin_at r) else if eqb q 2 then neg (cos_at r) else sin_at r
+cos_by q r = when eqb q 0 then cos_at r else when eqb q 1 then neg (sin_at r) else when eqb q 2 then neg (cos_at r) else sin_at r
 
 -- what is too far gives NaN
 abbrev pub turned : (ℕ → Float → Float) → Turn → Float
@@ -74,4 +74,4 @@ atan_at base u = base ⊕ u ⊗ atan_sum (u ⊗ u)
 
 -- if t > 0.4142, u = (t-1)/(t+1), base 3FE921FB54442D18; else u = t, base 0
 unfoldable pub atan_of : Float → Float
-atan_of t = if decimal 4142 10000 ≺ t then atan_at (bits 0x3FE921FB54442D18) ((t ⊖ whole 1) ⊘ (t ⊕ whole 1)) else atan_at (whole 0) t
+atan_of t = when decimal 4142 10000 ≺ t then atan_at (bits 0x3FE921FB54442D18) ((t ⊖ whole 1) ⊘ (t ⊕ whole 1)) else atan_at (whole 0) t

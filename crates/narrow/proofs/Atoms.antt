@@ -8,7 +8,7 @@ use native.Mathlib.Omega.{arith}
 use lib.Ieee.{Float, nan, binary64, lt, eq, round, of_bits}
 use lib.ListN.{length, get_or, set}
 use lib.Seq.{set-get_or}
-use Rattle.number.specs.Notation.{if◌then◌else◌, bits}
+use Rattle.number.specs.Notation.{when◌then◌else◌, bits}
 use Rattle.number.specs.Literals.{zero_is}
 use Rattle.number.specs.Next.{next_up, next_down}
 use Rattle.settings.specs.declared.Settings.{Settings}
@@ -34,7 +34,7 @@ eps_is = refl
 
 -- ---- a box moved off zero
 pub beyond : (lo hi : List Float) (i : ℕ) → length lo ≤ i → Stable leaving intervals lo hi ≡ nudge_var i (intervals lo hi)
-unfolding nudge_var if◌then◌else◌
+unfolding nudge_var when◌then◌else◌
 beyond lo hi i h = simp (le-ltb i (length (intervals lo hi)) (omega (arith, intervals_short lo hi)))
 
 module _ (lo hi : List Float) (i : ℕ) (e : length hi ≡ length lo) (h : i < length lo) where
@@ -45,20 +45,20 @@ module _ (lo hi : List Float) (i : ℕ) (e : length hi ≡ length lo) (h : i < l
   box_is = sym (intervals_at lo hi i missing e h)
 
   pub nudged_up : (eq (get_or lo i nan) (bits 0) && lt (bits 0) (get_or hi i nan)) ≡ true → {x : Float} → x ≡ next_up binary64 (bits 0) → Changed leaving intervals (set lo i x) hi ≡ nudge_var i (intervals lo hi)
-  unfolding nudge_var if◌then◌else◌
+  unfolding nudge_var when◌then◌else◌
   nudged_up t {x} n =
       simp (lt-ltb _ _ there, box_is, zero_is, t)
       (ap (λ (r : List Interval). Changed leaving r) (ap (intervals (set lo i x)) (sym (set-get_or hi i nan)) ∙ intervals_set lo hi i x (get_or hi i nan) ∙ ap (λ (y : Float). set (intervals lo hi) i (y ‥ get_or hi i nan)) n))
 
   module _ (u : (eq (get_or lo i nan) (bits 0) && lt (bits 0) (get_or hi i nan)) ≡ false) where
     pub nudged_down : (eq (get_or hi i nan) (bits 0) && lt (get_or lo i nan) (bits 0)) ≡ true → {x : Float} → x ≡ next_down binary64 (bits 0) → Changed leaving intervals lo (set hi i x) ≡ nudge_var i (intervals lo hi)
-    unfolding nudge_var if◌then◌else◌
+    unfolding nudge_var when◌then◌else◌
     nudged_down t {x} n =
         simp (lt-ltb _ _ there, box_is, zero_is, u, t)
         (ap (λ (r : List Interval). Changed leaving r) (ap (λ (l : List Float). intervals l (set hi i x)) (sym (set-get_or lo i nan)) ∙ intervals_set lo hi i (get_or lo i nan) x ∙ ap (λ (y : Float). set (intervals lo hi) i (get_or lo i nan ‥ y)) n))
 
     pub not_nudged : (eq (get_or hi i nan) (bits 0) && lt (get_or lo i nan) (bits 0)) ≡ false → Stable leaving intervals lo hi ≡ nudge_var i (intervals lo hi)
-    unfolding nudge_var if◌then◌else◌
+    unfolding nudge_var when◌then◌else◌
     not_nudged t = simp (lt-ltb _ _ there, box_is, zero_is, u, t)
 
 -- ---- an atom
@@ -73,18 +73,18 @@ module _ (σ : Settings) (rel : Relation) (t : Tree) (b : List Interval) where
 
   module _ {v : Interval} (e : eval_interval b t ≡ Within v) where
     pub atom_empty : is_empty v ≡ true → Conflict leaving b ≡ narrow_atom σ rel t b
-    unfolding narrow_atom narrow_to if◌then◌else◌
+    unfolding narrow_atom narrow_to when◌then◌else◌
     atom_empty h = simp (e, h)
 
     module _ (n : is_empty v ≡ false) where
       pub atom_stopped : {w : PropResult} → target_of σ rel v ≡ Stop w → w leaving b ≡ narrow_atom σ rel t b
-      unfolding narrow_atom narrow_to if◌then◌else◌ aim
+      unfolding narrow_atom narrow_to when◌then◌else◌ aim
       atom_stopped h = simp (e, n, h)
 
       pub atom_out : {out : Interval} {z : Narrowed} → target_of σ rel v ≡ Out out → z ≡ backward σ t out b → z ≡ narrow_atom σ rel t b
-      unfolding narrow_atom narrow_to if◌then◌else◌ aim
+      unfolding narrow_atom narrow_to when◌then◌else◌ aim
       atom_out h g = simp (e, n, h) g
 
       pub atom_nudged : {z : Narrowed} → target_of σ rel v ≡ Nudge → z ≡ nudge_tree t b → z ≡ narrow_atom σ rel t b
-      unfolding narrow_atom narrow_to if◌then◌else◌ aim
+      unfolding narrow_atom narrow_to when◌then◌else◌ aim
       atom_nudged h g = simp (e, n, h) g

@@ -4,7 +4,7 @@ use mathlib.Core.Path.{◌≡◌, sym}
 use mathlib.Core.Bool.{true, false}
 use mathlib.Core.List.{List}
 use lib.Ieee.{Float}
-use Rattle.number.specs.Notation.{if◌then◌else◌, whole}
+use Rattle.number.specs.Notation.{when◌then◌else◌, whole}
 use Rattle.settings.specs.declared.Settings.{Settings}
 use Rattle.interval.specs.declared.Interval.{Interval}
 use Rattle.interval.specs.Interval.{is_empty}
@@ -18,7 +18,7 @@ use Rattle.narrow.specs.Narrowing.{Narrowed, worse_of, ask_both, fixed_at, narro
 
 module _ (σ : Settings) (out : Interval) (b : List Interval) where
   pub back_empty : (t : Tree) → is_empty out ≡ true → Conflict leaving b ≡ backward σ t out b
-  unfolding backward if◌then◌else◌
+  unfolding backward when◌then◌else◌
   back_empty Tree.One e = simp e
   back_empty (Tree.Const v) e = simp e
   back_empty (Tree.Var i) e = simp e
@@ -26,19 +26,19 @@ module _ (σ : Settings) (out : Interval) (b : List Interval) where
 
   module _ {t : Tree} (n : is_empty out ≡ false) where
     pub back_one : {w : PropResult} → t ≡ Tree.One → w ≡ fixed_at (whole 1) out → w leaving b ≡ backward σ t out b
-    unfolding backward if◌then◌else◌
+    unfolding backward when◌then◌else◌
     back_one e h = simp (e, n, h)
 
     pub back_const : {v : Float} {w : PropResult} → t ≡ Tree.Const v → w ≡ fixed_at v out → w leaving b ≡ backward σ t out b
-    unfolding backward if◌then◌else◌
+    unfolding backward when◌then◌else◌
     back_const e h = simp (e, n, h)
 
     pub back_var : {i : ℕ} {z : Narrowed} → t ≡ Tree.Var i → z ≡ narrow_var σ i out b → z ≡ backward σ t out b
-    unfolding backward if◌then◌else◌
+    unfolding backward when◌then◌else◌
     back_var e h = simp (e, n) h
 
     pub back_eml : {l r : Tree} {z : Narrowed} → t ≡ Tree.Eml l r → z ≡ backward_eml σ l r out b → z ≡ backward σ t out b
-    unfolding backward if◌then◌else◌
+    unfolding backward when◌then◌else◌
     back_eml e h = simp (e, n) h
 
 -- ---- an Eml of l and r

@@ -10,7 +10,7 @@ use native.Mathlib.Omega.{arith}
 use lib.Ieee.{Float, nan}
 use lib.ListN.{length, get_or, set, take, drop, length-set, drop_of_length-le}
 use lib.Seq.{take-suc, take-suc-set, take_all, take-take, take-set-le, drop-cons, drop-set-lt, get_or-set_same, get_or-take}
-use Rattle.number.specs.Notation.{if◌then◌else◌}
+use Rattle.number.specs.Notation.{when◌then◌else◌}
 use Rattle.settings.specs.declared.Settings.{Settings}
 use Rattle.interval.specs.declared.Interval.{Interval}
 use Rattle.interval.specs.Interval.{◌‥◌, is_empty, intersect, hull, moves}
@@ -102,30 +102,30 @@ module _ (a b o : Boxes) (i : ℕ) (p : Joining a b o i) where
 -- ---- one more branch
 module _ (before : Bool) (hs : List Interval) (w : PropResult) (b : List Interval) where
   pub branch_lost : is_conflict w ≡ true → alive before hs ≡ survive (alive before hs) (w leaving b)
-  unfolding survive if◌then◌else◌
+  unfolding survive when◌then◌else◌
   branch_lost c = simp c
 
   pub branch_first : is_conflict w ≡ false → before ≡ false → some b ≡ survive (alive before hs) (w leaving b)
-  unfolding survive hull_with if◌then◌else◌
+  unfolding survive hull_with when◌then◌else◌
   branch_first c n = simp (c, n)
 
   pub branch_joins : is_conflict w ≡ false → before ≡ true → some (hulls hs b) ≡ survive (alive before hs) (w leaving b)
-  unfolding survive hull_with if◌then◌else◌
+  unfolding survive hull_with when◌then◌else◌
   branch_joins c n = simp (c, n)
 
 -- ---- the boxes after an Or
 module _ (σ : Settings) (h old : Interval) {new : Interval} (e : new ≡ intersect h old) where
   pub box_empty : is_empty new ≡ true → record { result = Stable; interval = old } ≡ tightened σ h old
-  unfolding tightened if◌then◌else◌
+  unfolding tightened when◌then◌else◌
   box_empty t = simp (sym e, t)
 
   module _ (n : is_empty new ≡ false) where
     pub box_moves : moves σ.slack old new ≡ true → record { result = Changed; interval = new } ≡ tightened σ h old
-    unfolding tightened if◌then◌else◌
+    unfolding tightened when◌then◌else◌
     box_moves t = simp (sym e, n, t)
 
     pub box_stays : moves σ.slack old new ≡ false → record { result = Stable; interval = old } ≡ tightened σ h old
-    unfolding tightened if◌then◌else◌
+    unfolding tightened when◌then◌else◌
     box_stays t = simp (sym e, n, t)
 
 -- the loop over the caller's boxes, from the last to the first: those from i on are done

@@ -8,7 +8,7 @@ use native.Mathlib.Omega.{arith}
 use lib.Ieee.{Float}
 use lib.ListN.{length, take}
 use lib.Seq.{take_at}
-use Rattle.number.specs.Notation.{if◌then◌else◌}
+use Rattle.number.specs.Notation.{when◌then◌else◌}
 use Rattle.interval.specs.Boxes.{intervals, starting}
 use Rattle.interval.specs.BoxLaws.{intervals_length, starting_all}
 use Rattle.tree.specs.Nodes.{tree_at, Valid}
@@ -29,7 +29,7 @@ use Rattle.narrow.specs.Modes.{in_mode, is_negated, several_of, step_of, one_or_
 
 -- ---- a step, and the next one
 continue_last : (r : PropResult) (b : List Interval) → continue (r leaving b) (λ c. Stable leaving c) ≡ (r leaving b)
-unfolding continue if◌then◌else◌
+unfolding continue when◌then◌else◌
 continue_last Conflict b = refl
 continue_last Changed b = refl
 continue_last Stable b = refl
@@ -40,29 +40,29 @@ worse_twice Changed = refl
 worse_twice Stable = refl
 
 worse_continue : (r : PropResult) (b : List Interval) (g : List Interval → Narrowed) → joined Changed (continue (r leaving b) g) ≡ continue (joined Changed (r leaving b)) g
-unfolding continue if◌then◌else◌
+unfolding continue when◌then◌else◌
 worse_continue Conflict b g = refl
 worse_continue Changed b g = ap (λ (x : PropResult). x leaving (g b).places) (worse_twice (g b).answer)
 worse_continue Stable b g = refl
 
 continue_assoc : (r : PropResult) (b : List Interval) (f g : List Interval → Narrowed) → continue (r leaving b) (λ c. continue (f c) g) ≡ continue (continue (r leaving b) f) g
-unfolding continue if◌then◌else◌
+unfolding continue when◌then◌else◌
 continue_assoc Conflict b f g = refl
 continue_assoc Changed b f g = worse_continue (f b).answer (f b).places g
 continue_assoc Stable b f g = refl
 
 stops : (x : Narrowed) (g : List Interval → Narrowed) → is_conflict x.answer ≡ true → x ≡ continue x g
-unfolding continue if◌then◌else◌
+unfolding continue when◌then◌else◌
 stops x g e = simp e
 
 goes_on : (x : Narrowed) (g : List Interval → Narrowed) → is_conflict x.answer ≡ false → joined x.answer (g x.places) ≡ continue x g
-unfolding continue if◌then◌else◌
+unfolding continue when◌then◌else◌
 goes_on x g e = simp e
 
 -- ---- the last of several
 module _ (σ : Settings) (w : Mode) where
   all_snoc : (xs : List Constraint) (c : Constraint) (b : List Interval) → pass_all σ w (gather (xs ++ c ∷ [])) b ≡ continue (pass_all σ w (gather xs) b) (pass σ w c)
-  unfolding pass gather continue if◌then◌else◌
+  unfolding pass gather continue when◌then◌else◌
   all_snoc [] c b = continue_last (pass σ w c b).answer (pass σ w c b).places
   all_snoc (x ∷ xs) c b =
       step (pass σ w x b) (pass σ w x b) (pass_all σ w (gather (xs ++ c ∷ []))) (λ d. continue (pass_all σ w (gather xs) d) (pass σ w c)) refl (λ d. all_snoc xs c d)
@@ -202,11 +202,11 @@ module _ (σ : Settings) (w : Mode) (d : Constraint) (lo₀ hi₀ lo hi : List F
       ap (λ (x : Narrowed). joined done (again x (rounds σ (n - 1) (in_mode w d)))) (e ∙ pass_is σ w d (intervals lo hi)) ∙ ap (λ (m : ℕ). joined done (rounds σ m (in_mode w d) (intervals lo hi))) k ∙ p.left
 
   pub stays : is_changed r ≡ false → u leaving intervals lo' hi' ≡ propagate σ (in_mode w d) (intervals lo₀ hi₀)
-  unfolding again if◌then◌else◌
+  unfolding again when◌then◌else◌
   stays t = ap (λ (v : PropResult). v leaving intervals lo' hi') j ∙ (rw t at next)
 
   pub changes : is_changed r ≡ true → length lo' ≡ length lo → length hi' ≡ length hi → Going σ (in_mode w d) lo₀ hi₀ lo' hi' u (n - 1)
-  unfolding again if◌then◌else◌
+  unfolding again when◌then◌else◌
   changes t l k =
       let y = rounds σ (n - 1) (in_mode w d) (intervals lo' hi') in
       record {

@@ -4,7 +4,7 @@ use Rattle.std.specs.Prelude.{◌≡◌, Bool, ◌||◌, List}
 use Rattle.std.proofs.Math.Path.{refl}
 use Rattle.std.proofs.Math.Bool.{true, false}
 use Rattle.std.specs.Float.Ieee.{lt}
-use Rattle.number.specs.Notation.{if◌then◌else◌}
+use Rattle.number.specs.Notation.{when◌then◌else◌}
 use Rattle.settings.specs.declared.Settings.{Settings}
 use Rattle.interval.specs.declared.Interval.{Interval}
 use Rattle.interval.specs.Interval.{is_empty, nothing, exp, has_ln, ln, minus}
@@ -22,15 +22,15 @@ use Rattle.narrow.specs.Narrowing.{Narrowed, eml_interval, forward, eval_interva
 
 unfoldable pub aimed : Target → Interval → Interval → Demand
 aimed (Stop w) l r = Answer w
-aimed (Out out) l r = if is_empty out then Answer Conflict else ask_real l r out
+aimed (Out out) l r = when is_empty out then Answer Conflict else ask_real l r out
 aimed Nudge l r = Answer Stable
 
 -- where ln(r) is real
 unfoldable pub aim_real : Settings → Relation → Interval → Interval → Demand
-aim_real σ rel l r = let v = minus (exp l) (ln r) in if is_empty v then Answer Conflict else aimed (target_of σ rel v) l r
+aim_real σ rel l r = let v = minus (exp l) (ln r) in when is_empty v then Answer Conflict else aimed (target_of σ rel v) l r
 
 unfoldable pub aim_at : Settings → Relation → Values → Values → Demand
-aim_at σ rel (Within l) (Within r) = if is_empty l || is_empty r then Answer Conflict else if has_ln r then aim_real σ rel l r else Answer Stable
+aim_at σ rel (Within l) (Within r) = when is_empty l || is_empty r then Answer Conflict else when has_ln r then aim_real σ rel l r else Answer Stable
 aim_at σ rel (Within l) Unknown = Answer Stable
 aim_at σ rel Unknown r = Answer Stable
 
@@ -44,8 +44,8 @@ module _ (σ : Settings) (rel : Relation) (x y : Tree) (b : List Interval) where
 
   module _ (l r : Interval) (p : eval_interval b x ≡ Within l) (q : eval_interval b y ≡ Within r) where
     module _ (n : (is_empty l || is_empty r) ≡ false) (h : has_ln r ≡ true) where
-      out_is : (out : Interval) (e : Bool) → asked (if e then Answer Conflict else ask_real l r out) ≡ (if e then Conflict leaving b else asked (demand (eval_interval b x) (eval_interval b y) out))
-      unfolding ask_both demand ask_of if◌then◌else◌
+      out_is : (out : Interval) (e : Bool) → asked (when e then Answer Conflict else ask_real l r out) ≡ (when e then Conflict leaving b else asked (demand (eval_interval b x) (eval_interval b y) out))
+      unfolding ask_both demand ask_of when◌then◌else◌
       out_is out true = refl
       out_is out false = simp (p, q, n, h)
 
@@ -55,15 +55,15 @@ module _ (σ : Settings) (rel : Relation) (x y : Tree) (b : List Interval) where
       target_is (Out out) = out_is out (is_empty out)
       target_is Nudge = refl
 
-      real_is : (v : Interval) (e : Bool) → asked (if e then Answer Conflict else aimed (target_of σ rel v) l r) ≡ (if e then Conflict leaving b else aim σ (target_of σ rel v) (Eml x y) b)
-      unfolding ask_both if◌then◌else◌
+      real_is : (v : Interval) (e : Bool) → asked (when e then Answer Conflict else aimed (target_of σ rel v) l r) ≡ (when e then Conflict leaving b else aim σ (target_of σ rel v) (Eml x y) b)
+      unfolding ask_both when◌then◌else◌
       real_is v true = refl
       real_is v false = target_is (target_of σ rel v)
 
     known_is : (e h : Bool) → (is_empty l || is_empty r) ≡ e → has_ln r ≡ h
-        → asked (if e then Answer Conflict else if h then aim_real σ rel l r else Answer Stable)
-        ≡ narrow_to σ rel (Eml x y) (if e then Within nothing else if h then Within (minus (exp l) (ln r)) else Unknown) b
-    unfolding ask_both aim_real narrow_to if◌then◌else◌
+        → asked (when e then Answer Conflict else when h then aim_real σ rel l r else Answer Stable)
+        ≡ narrow_to σ rel (Eml x y) (when e then Within nothing else when h then Within (minus (exp l) (ln r)) else Unknown) b
+    unfolding ask_both aim_real narrow_to when◌then◌else◌
     known_is true h n k = simp none_in_nothing
     known_is false true n k = real_is n k (minus (exp l) (ln r)) (is_empty (minus (exp l) (ln r)))
     known_is false false n k = refl

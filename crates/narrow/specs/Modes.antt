@@ -16,7 +16,7 @@ use Rattle.narrow.specs.declared.Step.{Step}
 use Rattle.narrow.specs.declared.Mode.{Mode}
 use Rattle.narrow.specs.declared.Mode.TheVariants.{Written, Normal, Negated}
 use Rattle.narrow.specs.Narrowing.{Narrowed, is_conflict, joined, narrow_atom, continue, survive, adopt_survivors, round, round_all, survivors, propagate_once}
-use Rattle.number.specs.Notation.{if◌then◌else◌}
+use Rattle.number.specs.Notation.{when◌then◌else◌}
 
 -- a constraint as it is written, its normal form, its negation
 abbrev pub under_not : Mode → Mode
@@ -88,7 +88,7 @@ step_of w (Record.Exists v lo hi) = Step.Nothing
 -- one step of And, by two narrowings that are equal
 pub step : (x y : Narrowed) (f g : List Interval → Narrowed) → x ≡ y → ((b : List Interval) → f b ≡ g b) → continue x f ≡ continue y g
 unfolding continue
-step x y f g e h = ap (λ (z : Narrowed). continue z f) e ∙ ap (λ (z : Narrowed). if is_conflict y.answer then y else joined y.answer z) (h y.places)
+step x y f g e h = ap (λ (z : Narrowed). continue z f) e ∙ ap (λ (z : Narrowed). when is_conflict y.answer then y else joined y.answer z) (h y.places)
 
 module _ (σ : Settings) (u : Constraint → List Interval → Narrowed) where
   mutual

@@ -3,7 +3,7 @@ use Rattle.std.specs.Prelude.{ℕ, zero, suc, ◌^◌, Bool, true, false, not, �
 use Rattle.std.proofs.Math.Option.{Option, none, some}
 use Rattle.std.specs.Float.{binary64}
 use Rattle.std.specs.Float.Ieee.{neg, eq}
-use Rattle.number.specs.Notation.{if◌then◌else◌, ◌≺◌, ◌≼◌, whole, decimal}
+use Rattle.number.specs.Notation.{when◌then◌else◌, ◌≺◌, ◌≼◌, whole, decimal}
 use Rattle.number.specs.Sign.{abs_of}
 use Rattle.number.specs.MaxMin.{max_of, min_of}
 use Rattle.number.specs.Next.{next_up, next_down}
@@ -50,11 +50,11 @@ joined w x = worse_of w x.answer leaving x.places
 
 -- after a step, the next one on the boxes that it left, unless it met a Conflict
 unfoldable pub continue : Narrowed → (List Interval → Narrowed) → Narrowed
-continue x next = if is_conflict x.answer then x else joined x.answer (next x.places)
+continue x next = when is_conflict x.answer then x else joined x.answer (next x.places)
 
 -- ---- forward: the interval of a tree's values, where real arithmetic can tell
 unfoldable pub eml_interval : Interval → Interval → Values
-eml_interval l r = if is_empty l || is_empty r then Within nothing else if has_ln r then Within (minus (exp l) (ln r)) else Unknown
+eml_interval l r = when is_empty l || is_empty r then Within nothing else when has_ln r then Within (minus (exp l) (ln r)) else Unknown
 
 -- of two that are known
 unfoldable pub forward : Values → Values → Values
@@ -71,7 +71,7 @@ eval_interval b (Tree.Eml l r) = forward (eval_interval b l) (eval_interval b r)
 -- ---- backward: what a node's value is to lie in is passed on to its children, down to the variables
 -- an Eml asks its children, or answers at once: out = exp(left) - ln(right)
 unfoldable pub left_of : Interval → Interval → Interval
-left_of l range = if whole 0 ≺ range.lo then intersect l (ln range) else l
+left_of l range = when whole 0 ≺ range.lo then intersect l (ln range) else l
 
 unfoldable pub ask_real : Interval → Interval → Interval → Demand
 ask_real l r out =
@@ -80,10 +80,10 @@ ask_real l r out =
     let out_c = intersect out (minus expL lnR) in
     let expLC = intersect expL (plus out_c lnR) in
     let lnRC = intersect lnR (minus expL out_c) in
-    if is_empty out_c || is_empty expLC || is_empty lnRC then Answer Conflict else Ask (left_of l expLC) (intersect r (exp lnRC))
+    when is_empty out_c || is_empty expLC || is_empty lnRC then Answer Conflict else Ask (left_of l expLC) (intersect r (exp lnRC))
 
 unfoldable pub ask_of : Interval → Interval → Interval → Demand
-ask_of l r out = if is_empty l || is_empty r then Answer Conflict else if has_ln r then ask_real l r out else Answer Stable
+ask_of l r out = when is_empty l || is_empty r then Answer Conflict else when has_ln r then ask_real l r out else Answer Stable
 
 unfoldable pub demand : Values → Values → Interval → Demand
 demand (Within l) (Within r) out = ask_of l r out
@@ -97,21 +97,21 @@ ask_both (Ask l r) left right b = let x = left l b in joined x.answer (right r x
 
 -- a node of the one value v
 unfoldable pub fixed_at : Float → Interval → PropResult
-fixed_at v out = if contains out v then Stable else Conflict
+fixed_at v out = when contains out v then Stable else Conflict
 
 -- a variable beyond the list may be Changed, and nothing is written
 unfoldable pub narrow_var : Settings → ℕ → Interval → List Interval → Narrowed
 narrow_var σ i out b =
     let old = get_or b i missing in
     let new = intersect old out in
-    if is_empty new then Conflict leaving b else if moves σ.slack old new then Changed leaving set b i new else Stable leaving b
+    when is_empty new then Conflict leaving b else when moves σ.slack old new then Changed leaving set b i new else Stable leaving b
 
 unfoldable pub backward : Settings → Tree → Interval → List Interval → Narrowed
-backward σ Tree.One out b = if is_empty out then Conflict leaving b else (fixed_at (whole 1) out leaving b)
-backward σ (Tree.Const v) out b = if is_empty out then Conflict leaving b else (fixed_at v out leaving b)
-backward σ (Tree.Var i) out b = if is_empty out then Conflict leaving b else narrow_var σ i out b
+backward σ Tree.One out b = when is_empty out then Conflict leaving b else (fixed_at (whole 1) out leaving b)
+backward σ (Tree.Const v) out b = when is_empty out then Conflict leaving b else (fixed_at v out leaving b)
+backward σ (Tree.Var i) out b = when is_empty out then Conflict leaving b else narrow_var σ i out b
 backward σ (Tree.Eml l r) out b =
-    if is_empty out then Conflict leaving b else ask_both (demand (eval_interval b l) (eval_interval b r) out) (backward σ l) (backward σ r) b
+    when is_empty out then Conflict leaving b else ask_both (demand (eval_interval b l) (eval_interval b r) out) (backward σ l) (backward σ r) b
 
 -- an Eml of l and r that is to lie in out, which is not empty
 abbrev pub backward_eml : Settings → Tree → Tree → Interval → List Interval → Narrowed
@@ -124,20 +124,20 @@ eps = decimal 1 (2 ^ 50)
 
 -- what an atom asks of its tree, whose values lie in v, which is not empty
 unfoldable pub target_of : Settings → Relation → Interval → Target
-target_of σ EqZero v = if (whole 0 ≺ v.lo) || (v.hi ≺ whole 0) then Stop Conflict else Out (whole 0 ‥ whole 0)
-target_of σ GtZero v = if v.hi ≼ whole 0 then Stop Conflict else Out (max_of v.lo eps ‥ v.hi)
-target_of σ GeZero v = if v.hi ≺ whole 0 then Stop Conflict else Out (max_of v.lo (whole 0) ‥ v.hi)
-target_of σ LtZero v = if whole 0 ≼ v.lo then Stop Conflict else Out (v.lo ‥ min_of v.hi (neg eps))
-target_of σ LeZero v = if whole 0 ≺ v.lo then Stop Conflict else Out (v.lo ‥ min_of v.hi (whole 0))
-target_of σ NeZero v = if (width v ≺ σ.slack) && (abs_of v.lo ≺ σ.slack) then Stop Conflict else Nudge
+target_of σ EqZero v = when (whole 0 ≺ v.lo) || (v.hi ≺ whole 0) then Stop Conflict else Out (whole 0 ‥ whole 0)
+target_of σ GtZero v = when v.hi ≼ whole 0 then Stop Conflict else Out (max_of v.lo eps ‥ v.hi)
+target_of σ GeZero v = when v.hi ≺ whole 0 then Stop Conflict else Out (max_of v.lo (whole 0) ‥ v.hi)
+target_of σ LtZero v = when whole 0 ≼ v.lo then Stop Conflict else Out (v.lo ‥ min_of v.hi (neg eps))
+target_of σ LeZero v = when whole 0 ≺ v.lo then Stop Conflict else Out (v.lo ‥ min_of v.hi (whole 0))
+target_of σ NeZero v = when (width v ≺ σ.slack) && (abs_of v.lo ≺ σ.slack) then Stop Conflict else Nudge
 
 -- NeZero moves an end of a bare variable off zero
 unfoldable pub nudge_var : ℕ → List Interval → Narrowed
 nudge_var i b =
     let v = get_or b i missing in
-    if not (ltb i (length b)) then Stable leaving b
-    else if eq v.lo (whole 0) && (whole 0 ≺ v.hi) then Changed leaving set b i (next_up binary64 (whole 0) ‥ v.hi)
-    else if eq v.hi (whole 0) && (v.lo ≺ whole 0) then Changed leaving set b i (v.lo ‥ next_down binary64 (whole 0))
+    when not (ltb i (length b)) then Stable leaving b
+    else when eq v.lo (whole 0) && (whole 0 ≺ v.hi) then Changed leaving set b i (next_up binary64 (whole 0) ‥ v.hi)
+    else when eq v.hi (whole 0) && (v.lo ≺ whole 0) then Changed leaving set b i (v.lo ‥ next_down binary64 (whole 0))
     else Stable leaving b
 
 unfoldable pub nudge_tree : Tree → List Interval → Narrowed
@@ -152,7 +152,7 @@ aim σ (Out out) t b = backward σ t out b
 aim σ Nudge t b = nudge_tree t b
 
 unfoldable pub narrow_to : Settings → Relation → Tree → Values → List Interval → Narrowed
-narrow_to σ rel t (Within v) b = if is_empty v then Conflict leaving b else aim σ (target_of σ rel v) t b
+narrow_to σ rel t (Within v) b = when is_empty v then Conflict leaving b else aim σ (target_of σ rel v) t b
 narrow_to σ rel t Unknown b = Stable leaving b
 
 unfoldable pub narrow_atom : Settings → Relation → Tree → List Interval → Narrowed
@@ -171,13 +171,13 @@ hull_with (some hs) b = hulls hs b
 
 -- after one more branch
 unfoldable pub survive : Option (List Interval) → Narrowed → Option (List Interval)
-survive so_far x = if is_conflict x.answer then so_far else some (hull_with so_far x.places)
+survive so_far x = when is_conflict x.answer then so_far else some (hull_with so_far x.places)
 
 -- the hull, intersected with the original, is written where an end moves
 unfoldable pub tightened : Settings → Interval → Interval → Tightened
 tightened σ h old =
     let new = intersect h old in
-    if not (is_empty new) && moves σ.slack old new then record { result = Changed; interval = new } else record { result = Stable; interval = old }
+    when not (is_empty new) && moves σ.slack old new then record { result = Changed; interval = new } else record { result = Stable; interval = old }
 
 unfoldable pub adopt : Settings → List Interval → List Interval → Narrowed
 adopt σ [] is = Stable leaving is
@@ -221,7 +221,7 @@ is_changed Conflict = false
 
 -- after a round that changed a box, the next one
 unfoldable pub again : Narrowed → (List Interval → Narrowed) → Narrowed
-again x next = if is_changed x.answer then joined x.answer (next x.places) else x
+again x next = when is_changed x.answer then joined x.answer (next x.places) else x
 
 unfoldable pub rounds : Settings → ℕ → Constraint → List Interval → Narrowed
 rounds σ zero c b = Stable leaving b

@@ -7,7 +7,7 @@ use native.Mathlib.Omega.{arith}
 use lib.Ieee.{Float}
 use lib.ListN.{length, get_or, set, take, replicate, length-set, length-append}
 use lib.Seq.{set-set, take-set-lt, length-take-le}
-use Rattle.number.specs.Notation.{if◌then◌else◌, ◌≺◌, whole}
+use Rattle.number.specs.Notation.{when◌then◌else◌, ◌≺◌, whole}
 use Rattle.settings.specs.declared.Settings.{Settings}
 use Rattle.interval.specs.declared.Interval.{Interval}
 use Rattle.interval.specs.declared.Halves.{Halves}
@@ -66,11 +66,11 @@ module _ (b : List Interval) (n : ℕ) {point : List Float} (e : (point ≡ padd
 module _ (σ : Settings) (c : Constraint) (b : List Interval) {w : ℕ} {i : Interval} {halves : Halves} {low high : Float}
     (last : w ≡ widest b) (is : i ≡ get_or b w missing) (parts : halves ≡ split i)
     (lows : low ≡ distance σ c (set b w halves.lower)) (highs : high ≡ distance σ c (set b w halves.upper)) where
-  chosen : (k : Bool) (x y : Interval) → set b w (if k then x else y) ≡ (if k then set b w x else set b w y)
-  unfolding if◌then◌else◌
+  chosen : (k : Bool) (x y : Interval) → set b w (when k then x else y) ≡ (when k then set b w x else set b w y)
+  unfolding when◌then◌else◌
   chosen true x y = refl
   chosen false x y = refl
 
-  pub halved_is : {kept : Interval} → kept ≡ (if low ≺ high then halves.lower else halves.upper) → set b w kept ≡ halved σ c b
+  pub halved_is : {kept : Interval} → kept ≡ (when low ≺ high then halves.lower else halves.upper) → set b w kept ≡ halved σ c b
   unfolding halved
   halved_is q = rw (q, chosen (low ≺ high) halves.lower halves.upper, lows, highs, parts, is, last)

@@ -1,6 +1,6 @@
 -- Halving (document 01; nra.rs): `solve`, step by step. σ are the settings.
 use Rattle.std.specs.Prelude.{ℕ, zero, suc, Bool, true, false, List, [], get_or, set, Float}
-use Rattle.number.specs.Notation.{if◌then◌else◌, ◌≺◌, +∞}
+use Rattle.number.specs.Notation.{when◌then◌else◌, ◌≺◌, +∞}
 use Rattle.number.specs.Sign.{abs_of}
 use Rattle.settings.specs.declared.Settings.{Settings}
 use Rattle.interval.specs.declared.Interval.{Interval}
@@ -90,7 +90,7 @@ halved σ c b =
     let halves = split (get_or b w missing) in
     let lower = set b w halves.lower in
     let upper = set b w halves.upper in
-    if distance σ c lower ≺ distance σ c upper then lower else upper
+    when distance σ c lower ≺ distance σ c upper then lower else upper
 
 -- by whether the midpoint passes the check, and whether every interval is narrower than the tolerance
 unfoldable pub settle_checked : Settings → Problem → ℕ → List Interval → Bool → Bool → Progress

@@ -1,6 +1,6 @@
 // One halving (document 01; nra.rs): the last widest box goes to one of its halves.
 ghost use Rattle.std.specs.Prelude.{◌≡◌, ◌+◌};
-ghost use Rattle.number.specs.Notation.{if◌then◌else◌, ◌≺◌};
+ghost use Rattle.number.specs.Notation.{when◌then◌else◌, ◌≺◌};
 ghost use Rattle.interval.specs.Boxes.{boxes_of};
 ghost use Rattle.constraint.specs.Starts.{Ready};
 ghost use Rattle.constraint.specs.Views.{the};
@@ -74,7 +74,7 @@ pub fn distance(
 
 // The lower half only if its distance is strictly smaller.
 fn better(low: f64, high: f64, halves: Halves) -> Interval
-    ensures { result ≡ if low ≺ high then halves.lower else halves.upper }
+    ensures { result ≡ when low ≺ high then halves.lower else halves.upper }
 {
     if low < high {
         return halves.lower;

@@ -6,7 +6,7 @@ use Rattle.std.proofs.Common.{sym, subst, ⊎_elim}
 use Rattle.std.proofs.Math.Logic.{inl, inr}
 use Rattle.std.specs.Float.{nan}
 use Rattle.std.specs.Float.Ieee.{lt, le, ne}
-use Rattle.number.specs.Notation.{if◌then◌else◌}
+use Rattle.number.specs.Notation.{when◌then◌else◌}
 use Rattle.number.specs.Order.{number, nan_test, le_refl, le_trans, le_nan_left, le_nan_right, lt→le, not_lt→le}
 
 -- the order the other way
@@ -19,7 +19,7 @@ ge x y = le y x
 -- ---- the definitions
 -- b where the test t passes, else a; where one is a NaN, the other
 abbrev pub choose : (Float → Float → Bool) → Float → Float → Float
-choose t a b = if is_nan a then b else if is_nan b then a else if t a b then b else a
+choose t a b = when is_nan a then b else when is_nan b then a else when t a b then b else a
 
 unfoldable pub max_of : Float → Float → Float
 max_of a b = choose lt a b
@@ -30,11 +30,11 @@ min_of a b = choose gt a b
 -- each way out, where only a was tested for a NaN
 module _ (t : Float → Float → Bool) (a b : Float) where
   pub chosen_nan : ne a a ≡ true → b ≡ choose t a b
-  unfolding if◌then◌else◌
+  unfolding when◌then◌else◌
   chosen_nan e = rw (nan_test a, e)
 
   pub chosen_second : ne a a ≡ false → T (number b) → t a b ≡ true → b ≡ choose t a b
-  unfolding if◌then◌else◌
+  unfolding when◌then◌else◌
   chosen_second e p h = rw (nan_test a, e, no_nan (is_nan b) p, h)
     where
       no_nan : (i : Bool) → T (not i) → i ≡ false
@@ -42,10 +42,10 @@ module _ (t : Float → Float → Bool) (a b : Float) where
       no_nan false p = refl
 
   pub chosen_first : ne a a ≡ false → t a b ≡ false → a ≡ choose t a b
-  unfolding if◌then◌else◌
+  unfolding when◌then◌else◌
   chosen_first e h = rw (nan_test a, e, h) (either (is_nan b))
     where
-      either : (i : Bool) → a ≡ (if i then a else a)
+      either : (i : Bool) → a ≡ (when i then a else a)
       either true = refl
       either false = refl
 
@@ -66,30 +66,30 @@ module _ (r t : Float → Float → Bool) (self : (a : Float) → T (number a) �
     (yes-b : (a b : Float) → T (number a) → T (number b) → T (t a b) → T (r a b))
     (no-a : (a b : Float) → T (number a) → T (number b) → T (not (t a b)) → T (r b a)) where
   choose_left : (a b : Float) → T (number a) → T (r a (choose t a b))
-  unfolding if◌then◌else◌
+  unfolding when◌then◌else◌
   choose_left a b p = go (is_nan a) (is_nan b) (t a b) p (self a) (yes-b a b p)
     where
-      go : (i j k : Bool) → T (not i) → (T (not i) → T (r a a)) → (T (not j) → T k → T (r a b)) → T (r a (if i then b else if j then a else if k then b else a))
+      go : (i j k : Bool) → T (not i) → (T (not i) → T (r a a)) → (T (not j) → T k → T (r a b)) → T (r a (when i then b else when j then a else when k then b else a))
       go true j k q f g = absurd q
       go false true k q f g = f tt
       go false false true q f g = g tt tt
       go false false false q f g = f tt
 
   choose_right : (a b : Float) → T (number b) → T (r b (choose t a b))
-  unfolding if◌then◌else◌
+  unfolding when◌then◌else◌
   choose_right a b p = go (is_nan a) (is_nan b) (t a b) p (self b) (λ n. no-a a b n p)
     where
-      go : (i j k : Bool) → T (not j) → (T (not j) → T (r b b)) → (T (not i) → T (not k) → T (r b a)) → T (r b (if i then b else if j then a else if k then b else a))
+      go : (i j k : Bool) → T (not j) → (T (not j) → T (r b b)) → (T (not i) → T (not k) → T (r b a)) → T (r b (when i then b else when j then a else when k then b else a))
       go true j k q f g = f q
       go false true k q f g = absurd q
       go false false true q f g = f tt
       go false false false q f g = g tt tt
 
   choose_one_of : (a b : Float) → (choose t a b ≡ a) ⊎ (choose t a b ≡ b)
-  unfolding if◌then◌else◌
+  unfolding when◌then◌else◌
   choose_one_of a b = go (is_nan a) (is_nan b) (t a b)
     where
-      go : (i j k : Bool) → (if i then b else if j then a else if k then b else a ≡ a) ⊎ (if i then b else if j then a else if k then b else a ≡ b)
+      go : (i j k : Bool) → (when i then b else when j then a else when k then b else a ≡ a) ⊎ (when i then b else when j then a else when k then b else a ≡ b)
       go true j k = inr refl
       go false true k = inl refl
       go false false true = inr refl

@@ -3,7 +3,7 @@ use Rattle.std.specs.Prelude.{ℕ, Bool, true, false, ℤ, pos, from_bits, Float
 use Rattle.std.specs.Float.{inf, binary64}
 use Rattle.std.specs.Float.Ieee.{add, sub, mul, div, lt, le, round, of_int}
 
-infix 10 if◌then◌else◌
+infix 10 when◌then◌else◌
 infixl 65 ◌⊕◌
 infixl 65 ◌⊖◌
 infixl 70 ◌⊗◌
@@ -11,9 +11,9 @@ infixl 70 ◌⊘◌
 infix 50 ◌≺◌
 infix 50 ◌≼◌
 -- Shut unless a proof opens it, so that the checker sees the test and the two values.
-unfoldable pub if◌then◌else◌ : {A : Type 0} → Bool → A → A → A
-if true then x else y = x
-if false then x else y = y
+unfoldable pub when◌then◌else◌ : {A : Type 0} → Bool → A → A → A
+when true then x else y = x
+when false then x else y = y
 
 -- sum, difference, product, quotient
 abbrev pub ◌⊕◌ : Float → Float → Float

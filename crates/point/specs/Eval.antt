@@ -2,7 +2,7 @@
 use Rattle.std.specs.Prelude.{ℕ, ◌^◌, Bool, ◌&&◌, ◌||◌, List, length, get_or, ltb, Float}
 use Rattle.std.specs.Float.{nan}
 use Rattle.std.specs.Float.Ieee.{neg, is_nan}
-use Rattle.number.specs.Notation.{if◌then◌else◌, ◌⊖◌, ◌≺◌, whole, decimal}
+use Rattle.number.specs.Notation.{when◌then◌else◌, ◌⊖◌, ◌≺◌, whole, decimal}
 use Rattle.number.specs.Sign.{abs_of}
 use Rattle.maths.specs.declared.Complex.{Complex}
 use Rattle.maths.specs.Cplx.{complex_exp, complex_ln}
@@ -20,25 +20,25 @@ difference a b = record { re = a.re ⊖ b.re; im = a.im ⊖ b.im }
 
 -- x clamped to ±most, and whether it is beyond it
 unfoldable pub clamped : Float → Float → Float
-clamped most x = if most ≺ x then most else if x ≺ neg most then neg most else x
+clamped most x = when most ≺ x then most else when x ≺ neg most then neg most else x
 
 unfoldable pub beyond : Float → Float → Bool
 beyond most x = (most ≺ x) || (x ≺ neg most)
 
 -- a value, unless a part of it is a NaN
 unfoldable pub numeric : Complex → EvaluatedComplex
-numeric z = if is_nan z.re || is_nan z.im then EvaluatedComplex.Failed NanEncountered else EvaluatedComplex.Value z
+numeric z = when is_nan z.re || is_nan z.im then EvaluatedComplex.Failed NanEncountered else EvaluatedComplex.Value z
 
 -- exp l - ln r: exp's real argument is clamped, and where the settings are strict one beyond the clamp is an error
 unfoldable pub eml_complex : Settings → Complex → Complex → EvaluatedComplex
 eml_complex σ l r =
-    if σ.strict && beyond σ.clamp l.re
+    when σ.strict && beyond σ.clamp l.re
     then EvaluatedComplex.Failed (ExpOverflow l.re)
     else numeric (difference (complex_exp (record { re = clamped σ.clamp l.re; im = l.im })) (complex_ln r))
 
 -- variable i, which the point may lack
 unfoldable pub variable : List Float → ℕ → EvaluatedComplex
-variable p i = if ltb i (length p) then EvaluatedComplex.Value (real (get_or p i nan)) else EvaluatedComplex.Failed (VarOutOfBounds i (length p))
+variable p i = when ltb i (length p) then EvaluatedComplex.Value (real (get_or p i nan)) else EvaluatedComplex.Failed (VarOutOfBounds i (length p))
 
 -- the recursive meaning of a tree: left, then right, then the node, so that the first error in postorder wins
 abbrev pub and_then : EvaluatedComplex → (Complex → EvaluatedComplex) → EvaluatedComplex
@@ -54,8 +54,8 @@ eval_complex σ p (Tree.Eml l r) = and_then (eval_complex σ p l) λ a. and_then
 -- at the end ComplexResult unless |im| < 1e-12
 unfoldable pub real_part : Complex → Evaluated
 real_part z =
-    if abs_of z.im ≺ decimal 1 (10 ^ 12)
-    then if is_nan z.re then Evaluated.Failed NanEncountered else Evaluated.Value z.re
+    when abs_of z.im ≺ decimal 1 (10 ^ 12)
+    then when is_nan z.re then Evaluated.Failed NanEncountered else Evaluated.Value z.re
     else Evaluated.Failed (ComplexResult (abs_of z.im))
 
 abbrev pub evaluated : EvaluatedComplex → Evaluated

@@ -4,7 +4,7 @@ use Rattle.std.specs.Prelude.{◌^◌, ◌≡◌, refl, Bool, true, false, List,
 use Rattle.std.proofs.Common.{sym, subst, arith}
 use Rattle.std.specs.Float.{nan, inf, fin, binary64}
 use Rattle.std.specs.Float.Ieee.{add, neg, le, is_nan, of_int}
-use Rattle.number.specs.Notation.{if◌then◌else◌, ◌⊕◌, ◌≺◌, ◌≼◌, whole, decimal, +∞}
+use Rattle.number.specs.Notation.{when◌then◌else◌, ◌⊕◌, ◌≺◌, ◌≼◌, whole, decimal, +∞}
 use Rattle.number.specs.Sign.{abs_of}
 use Rattle.number.specs.Order.{number, failed, naught, zeros_le, le_right, le_trans, lt→le, not_lt→le, not_le→lt, neg_le, le_nan_right}
 use Rattle.number.specs.MaxMin.{max_of, min_of, max_laws, min_laws, ≤min}
@@ -31,10 +31,10 @@ Numeric (Evaluated.Value v) = T (number v)
 Numeric (Evaluated.Failed e) = Unit {0}
 
 real_part_numeric : (z : Complex) → Numeric (real_part z)
-unfolding real_part if◌then◌else◌
+unfolding real_part when◌then◌else◌
 real_part_numeric z = go (abs_of z.im ≺ decimal 1 (10 ^ 12)) (is_nan z.re) NanEncountered (ComplexResult (abs_of z.im)) refl
   where
-    go : (small n : Bool) (a b : EvalError) → is_nan z.re ≡ n → Numeric (if small then if n then Evaluated.Failed a else Evaluated.Value z.re else Evaluated.Failed b)
+    go : (small n : Bool) (a b : EvalError) → is_nan z.re ≡ n → Numeric (when small then when n then Evaluated.Failed a else Evaluated.Value z.re else Evaluated.Failed b)
     go false n a b e = tt
     go true true a b e = tt
     go true false a b e = failed e
@@ -112,8 +112,8 @@ greatest x y h k = le_trans (whole 0) x (max_of x y) h (max_laws.left x y (le_ri
 least : Keeps min_of
 least x y h k = ≤min min_of min_laws x y (whole 0) h k
 
-chosen : (t : Bool) (x y : Float) → (t ≡ true → NotNegative x) → (t ≡ false → NotNegative y) → NotNegative (if t then x else y)
-unfolding if◌then◌else◌
+chosen : (t : Bool) (x y : Float) → (t ≡ true → NotNegative x) → (t ≡ false → NotNegative y) → NotNegative (when t then x else y)
+unfolding when◌then◌else◌
 chosen true x y f g = f refl
 chosen false x y f g = g refl
 

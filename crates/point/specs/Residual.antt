@@ -2,7 +2,7 @@
 use Rattle.std.specs.Prelude.{◌^◌, List, set, Float}
 use Rattle.std.specs.Float.{binary64}
 use Rattle.std.specs.Float.Ieee.{neg}
-use Rattle.number.specs.Notation.{if◌then◌else◌, ◌⊕◌, ◌≺◌, ◌≼◌, whole, decimal, +∞, -∞}
+use Rattle.number.specs.Notation.{when◌then◌else◌, ◌⊕◌, ◌≺◌, ◌≼◌, whole, decimal, +∞, -∞}
 use Rattle.number.specs.Sign.{abs_of}
 use Rattle.number.specs.MaxMin.{max_of, min_of}
 use Rattle.number.specs.Halving.{mid}
@@ -15,10 +15,10 @@ use Rattle.point.specs.Eval.{eval_real}
 -- an atom's residual: NeZero's is |v|
 unfoldable pub shortfall : Relation → Float → Float
 shortfall Relation.EqZero v = abs_of v
-shortfall Relation.GtZero v = if whole 0 ≺ v then whole 0 else neg v
-shortfall Relation.GeZero v = if whole 0 ≼ v then whole 0 else neg v
-shortfall Relation.LtZero v = if v ≺ whole 0 then whole 0 else abs_of v
-shortfall Relation.LeZero v = if v ≼ whole 0 then whole 0 else abs_of v
+shortfall Relation.GtZero v = when whole 0 ≺ v then whole 0 else neg v
+shortfall Relation.GeZero v = when whole 0 ≼ v then whole 0 else neg v
+shortfall Relation.LtZero v = when v ≺ whole 0 then whole 0 else abs_of v
+shortfall Relation.LeZero v = when v ≼ whole 0 then whole 0 else abs_of v
 shortfall Relation.NeZero v = abs_of v
 
 -- the value that an evaluation error counts as, so that NeZero's error is 0
@@ -36,7 +36,7 @@ value_or other (Evaluated.Failed e) = other
 
 -- Not's, by the residual of what it denies
 unfoldable pub residual_of_not : Float → Float
-residual_of_not r = if r ≺ decimal 1 (10 ^ 12) then whole 1 else whole 0
+residual_of_not r = when r ≺ decimal 1 (10 ^ 12) then whole 1 else whole 0
 
 -- three residuals in order, from x on
 abbrev pub of_three : (Float → Float → Float) → Float → Float → Float → Float → Float

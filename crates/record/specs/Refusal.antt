@@ -1,6 +1,6 @@
 -- Refusals are document 01's numbers; 0 stands for no refusal.
 use Rattle.std.specs.Prelude.{ℕ, zero, suc, Bool, true, false, List, eqb, set}
-use Rattle.number.specs.Notation.{if◌then◌else◌}
+use Rattle.number.specs.Notation.{when◌then◌else◌}
 
 infixr 20 ◌or_else◌
 infix 30 ◌unless◌
@@ -27,7 +27,7 @@ first refusal (suc n) = first refusal n or_else refusal n
 -- how many of them come before the first that is refused
 unfoldable pub passing : (ℕ → ℕ) → ℕ → ℕ
 passing refusal zero = 0
-passing refusal (suc n) = if eqb (first refusal (suc n)) 0 then suc n else passing refusal n
+passing refusal (suc n) = when eqb (first refusal (suc n)) 0 then suc n else passing refusal n
 
 -- a list whose first n places a loop has filled: place k with f k
 unfoldable pub filled : (ℕ → ℕ) → ℕ → List ℕ → List ℕ

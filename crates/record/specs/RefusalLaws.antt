@@ -7,7 +7,7 @@ use Rattle.std.proofs.Math.Logic.{⊎_elim}
 use Rattle.std.proofs.Math.Dec.{eqb}
 use Rattle.std.proofs.Math.ListN.{get_or, length-set}
 use Rattle.std.proofs.Math.Seq.{get_or-set_other}
-use Rattle.number.specs.Notation.{if◌then◌else◌}
+use Rattle.number.specs.Notation.{when◌then◌else◌}
 use Rattle.record.specs.Refusal.{◌or_else◌, ◌unless◌, refused_or, first, passing, filled}
 
 -- ---- two tests
@@ -62,9 +62,9 @@ module _ (f : ℕ → ℕ) where
       ⊎_elim (λ q. ap f q ∙ w.1) (λ q. none_of_each n w.0 k q) (eq-or-lt_of_le (le_of_suc-le-suc l))
 
   pub passing_all : (n : ℕ) → first f n ≡ 0 → passing f n ≡ n
-  unfolding passing if◌then◌else◌
+  unfolding passing when◌then◌else◌
   passing_all zero e = refl
-  passing_all (suc n) e = ap (λ (r : ℕ). if eqb r 0 then suc n else passing f n) e
+  passing_all (suc n) e = ap (λ (r : ℕ). when eqb r 0 then suc n else passing f n) e
 
   -- none before record k, and a refusal there
   module _ (r k : ℕ) (none : first f k ≡ 0) (here : f k ≡ suc r) where
@@ -78,10 +78,10 @@ module _ (f : ℕ → ℕ) where
         (eq-or-lt_of_le (le_of_suc-le-suc l))
 
     pub passing_here : (n : ℕ) → k < n → passing f n ≡ k
-    unfolding passing if◌then◌else◌
+    unfolding passing when◌then◌else◌
     passing_here zero l = absurd (not-suc-le-zero l)
     passing_here (suc n) l =
-        ap (λ (t : Bool). if t then suc n else passing f n) (ne_eqb (first f (suc n)) 0 (λ z. omega (arith, first_here (suc n) l)))
+        ap (λ (t : Bool). when t then suc n else passing f n) (ne_eqb (first f (suc n)) 0 (λ z. omega (arith, first_here (suc n) l)))
         ∙ ⊎_elim (λ q. ap (passing f) (sym q) ∙ passing_all k none) (λ q. passing_here n q) (eq-or-lt_of_le (le_of_suc-le-suc l))
 
 -- ---- places that a loop fills

@@ -8,7 +8,7 @@ use native.Mathlib.Numerals.{add-one}
 use native.Mathlib.Omega.{arith}
 use borrow.Author.Tests.{le-leb, lt-leb}
 use lib.ListN.{length, get_or, set}
-use Rattle.number.specs.Notation.{if◌then◌else◌}
+use Rattle.number.specs.Notation.{when◌then◌else◌}
 use Rattle.record.specs.Refusal.{first, passing, filled}
 use Rattle.record.specs.RefusalLaws.{none_more, none_of_each, passing_all, first_here, passing_here, length_filled, filled_at, filled_more}
 use Rattle.tree.specs.Tree.{size, depth, is_small}
@@ -125,9 +125,9 @@ module _ (b : List ℕ) (k : ℕ) (s₀ d₀ s d : List ℕ) (m : ℕ) (p : Pass
 -- ---- what `test_sizes` tells
 module _ (b : List ℕ) (n : ℕ) where
   pub no_fit : nodes_fit (length b) n ≡ false → (2 ≡ list_refusal b n) × (0 ≡ list_largest b n)
-  unfolding list_refusal list_largest if◌then◌else◌
+  unfolding list_refusal list_largest when◌then◌else◌
   no_fit e = (simp e, simp e)
 
   pub fitting : nodes_fit (length b) n ≡ true → (nodes_refusal b n ≡ list_refusal b n) × (largest b (passing (node_refusal b) n) ≡ list_largest b n)
-  unfolding list_refusal list_largest if◌then◌else◌
+  unfolding list_refusal list_largest when◌then◌else◌
   fitting e = (simp e, simp e)

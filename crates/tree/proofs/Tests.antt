@@ -9,7 +9,7 @@ use borrow.Author.Tests.{le-ltb, ne_eqb}
 use lib.Ieee.Scale.{finite}
 use Rattle.record.specs.Bytes.{u32_at, f64_at}
 use Rattle.tree.specs.Nodes.{is_node}
-use Rattle.number.specs.Notation.{if◌then◌else◌}
+use Rattle.number.specs.Notation.{when◌then◌else◌}
 use Rattle.tree.specs.Code.{left_end, right_end, chosen}
 
 and_assoc : (a b c : Bool) → (a && (b && c)) ≡ ((a && b) && c)
@@ -22,12 +22,12 @@ below_one (suc n) = le-ltb (suc n) 1 (omega arith) ∙ sym (ne_eqb (suc n) 0 (λ
 
 node_test : (kind left right last k : ℕ) (real : Bool) →
     ((ltb kind 4 && ltb left (left_end kind k)) && chosen kind real (ltb right (right_end kind k) && eqb last 0))
-    ≡ (if eqb kind 0 then eqb left 0 && eqb right 0 && eqb last 0
-    else if eqb kind 1 then eqb left 0 && real
-    else if eqb kind 2 then ltb left 16 && eqb right 0 && eqb last 0
-    else if eqb kind 3 then ltb left k && ltb right k && eqb last 0
+    ≡ (when eqb kind 0 then eqb left 0 && eqb right 0 && eqb last 0
+    else when eqb kind 1 then eqb left 0 && real
+    else when eqb kind 2 then ltb left 16 && eqb right 0 && eqb last 0
+    else when eqb kind 3 then ltb left k && ltb right k && eqb last 0
     else false)
-unfolding if◌then◌else◌
+unfolding when◌then◌else◌
 node_test zero left right last k real = rw (below_one left, below_one right) (and_assoc (eqb left 0) (eqb right 0) (eqb last 0))
 node_test (suc zero) left right last k real = rw (below_one left) refl
 node_test (suc (suc zero)) left right last k real = rw (below_one right) (and_assoc (ltb left 16) (eqb right 0) (eqb last 0))

@@ -1,6 +1,6 @@
 -- What the functions below the tests compute, in the terms of their arguments.
 use Rattle.std.specs.Prelude.{ℕ, zero, suc, ◌+◌, max, ◌≤◌, ◌<◌, ◌≡◌, Bool, ◌&&◌, List, leb, ltb, eqb, length, get_or}
-use Rattle.number.specs.Notation.{if◌then◌else◌}
+use Rattle.number.specs.Notation.{when◌then◌else◌}
 use Rattle.record.specs.Refusal.{◌or_else◌, ◌unless◌, passing}
 use Rattle.tree.specs.Tree.{Tree, size, depth}
 use Rattle.tree.specs.Nodes.{nodes_fit, tree_at, node_refusal, list_refusal}
@@ -9,13 +9,13 @@ use Rattle.tree.specs.declared.Node.{Node}
 
 -- the ends of the numbers of a record of that kind, of node k
 abbrev pub right_end : ℕ → ℕ → ℕ
-right_end kind k = if eqb kind 3 then k else 1
+right_end kind k = when eqb kind 3 then k else 1
 
 abbrev pub left_end : ℕ → ℕ → ℕ
-left_end kind k = if eqb kind 2 then 16 else right_end kind k
+left_end kind k = when eqb kind 2 then 16 else right_end kind k
 
 abbrev pub chosen : ℕ → Bool → Bool → Bool
-chosen kind constant other = if eqb kind 1 then constant else other
+chosen kind constant other = when eqb kind 1 then constant else other
 
 abbrev pub size_at : List ℕ → ℕ → ℕ
 size_at b k = size (tree_at b k)
@@ -60,7 +60,7 @@ largest b (suc n) = max (largest b n) (size_at b n)
 
 -- and of those trees of a list that pass its tests
 unfoldable pub list_largest : List ℕ → ℕ → ℕ
-list_largest b n = if nodes_fit (length b) n then largest b (passing (node_refusal b) n) else 0
+list_largest b n = when nodes_fit (length b) n then largest b (passing (node_refusal b) n) else 0
 
 -- the trees of the first n nodes are of at most that size
 abbrev pub Within : List ℕ → ℕ → ℕ → Type 0

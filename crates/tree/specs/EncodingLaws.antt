@@ -5,7 +5,7 @@ use Rattle.std.proofs.Common.{sym, ap, ◌∙◌, append_assoc, append-nil, zero
 use borrow.Author.Tests.{lt-ltb}
 use Rattle.std.proofs.Math.ListN.{get_or-append}
 use Rattle.std.proofs.lemmas.List.Edits.{sets}
-use Rattle.number.specs.Notation.{if◌then◌else◌}
+use Rattle.number.specs.Notation.{when◌then◌else◌}
 use Rattle.record.specs.Bytes.{u32_at, u32_bytes, u64_bytes}
 use Rattle.record.specs.ByteLaws.{then_bytes, u32_read, sets_at}
 use Rattle.tree.specs.Nodes.{node_at, is_node}
@@ -75,7 +75,7 @@ has_word c k x same o i h e = word_same c (node_bytes x) k 0 same o i o h e (ome
 
 module _ (c : List ℕ) (k : ℕ) (same : Has c k Node.One) where
   pub one_read : (node_at c k ≡ Node.One) × (is_node c k ≡ true)
-  unfolding node_at is_node if◌then◌else◌
+  unfolding node_at is_node when◌then◌else◌
   one_read = rw (kind, left, right, last) (refl, refl)
     where
       kind : u32_at c (16 * k) ≡ 0
@@ -92,7 +92,7 @@ module _ (c : List ℕ) (k : ℕ) (same : Has c k Node.One) where
 
 module _ (c : List ℕ) (k l r : ℕ) (same : Has c k (Node.Eml l r)) (p : l < k) (q : r < k) (few : k < 1024) where
   pub eml_read : (node_at c k ≡ Node.Eml l r) × (is_node c k ≡ true)
-  unfolding node_at is_node if◌then◌else◌
+  unfolding node_at is_node when◌then◌else◌
   eml_read = rw (kind, left, right, last, lt-ltb l k p, lt-ltb r k q) (refl, refl)
     where
       kind : u32_at c (16 * k) ≡ 3

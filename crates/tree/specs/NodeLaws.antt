@@ -7,7 +7,7 @@ use Rattle.std.specs.Float.Ieee.Fits.{and_l, and_r}
 use Rattle.std.specs.Float.Ieee.Scale.{finite}
 use Rattle.std.proofs.Math.ListN.{get_or-append}
 use Rattle.std.proofs.lemmas.List.{get_or_at}
-use Rattle.number.specs.Notation.{if◌then◌else◌}
+use Rattle.number.specs.Notation.{when◌then◌else◌}
 use Rattle.record.specs.Bytes.{u32_at}
 use Rattle.record.specs.Refusal.{◌unless◌}
 use Rattle.record.specs.RefusalLaws.{both, none_both, none_unless, none_of_each}
@@ -56,9 +56,9 @@ Right own (Node.Var i) = i < 16
 Right own (Node.Eml l r) = (l < own) × (r < own)
 
 right_of : (own l r : ℕ) (v : Float) (one const var eml l0 r0 z0 : Bool) →
-    T (if one then l0 && r0 && z0 else if const then l0 && finite v else if var then ltb l 16 && r0 && z0 else if eml then ltb l own && ltb r own && z0 else false) →
-    Right own (if one then Node.One else if const then Node.Const v else if var then Node.Var l else Node.Eml l r)
-unfolding if◌then◌else◌
+    T (when one then l0 && r0 && z0 else when const then l0 && finite v else when var then ltb l 16 && r0 && z0 else when eml then ltb l own && ltb r own && z0 else false) →
+    Right own (when one then Node.One else when const then Node.Const v else when var then Node.Var l else Node.Eml l r)
+unfolding when◌then◌else◌
 right_of own l r v true const var eml l0 r0 z0 h = tt
 right_of own l r v false true var eml l0 r0 z0 h = and_r l0 (finite v) h
 right_of own l r v false false true eml l0 r0 z0 h = ltb→lt l 16 (and_l (ltb l 16) r0 (and_l (ltb l 16 && r0) z0 h))

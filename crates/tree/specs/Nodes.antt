@@ -1,7 +1,7 @@
 -- Nodes (document 01, "The file"): 16 bytes each. The kind and its three zeros are read as one u32.
 use Rattle.std.specs.Prelude.{ℕ, zero, suc, ◌+◌, ◌*◌, ◌≤◌, ◌<◌, ◌≡◌, Bool, false, ◌&&◌, List, [], ◌∷◌, ◌++◌, leb, ltb, eqb, length, get_or}
 use Rattle.std.specs.Float.Ieee.Scale.{finite}
-use Rattle.number.specs.Notation.{if◌then◌else◌}
+use Rattle.number.specs.Notation.{when◌then◌else◌}
 use Rattle.record.specs.Bytes.{u32_at, f64_at}
 use Rattle.record.specs.Refusal.{◌or_else◌, ◌unless◌, first}
 use Rattle.tree.specs.Tree.{Tree, is_small}
@@ -11,9 +11,9 @@ use Rattle.tree.specs.declared.Node.{Node}
 unfoldable pub node_at : List ℕ → ℕ → Node
 node_at b k =
     let at = 16 * k in
-    if eqb (u32_at b at) 0 then Node.One
-    else if eqb (u32_at b at) 1 then Node.Const (f64_at b (at + 8))
-    else if eqb (u32_at b at) 2 then Node.Var (u32_at b (at + 4))
+    when eqb (u32_at b at) 0 then Node.One
+    else when eqb (u32_at b at) 1 then Node.Const (f64_at b (at + 8))
+    else when eqb (u32_at b at) 2 then Node.Var (u32_at b (at + 4))
     else Node.Eml (u32_at b (at + 4)) (u32_at b (at + 8))
 
 -- whether it is a node record: index 0..15, a finite constant, both children below its own number, unused bytes zero
@@ -24,10 +24,10 @@ is_node b k =
     let left = u32_at b (at + 4) in
     let right = u32_at b (at + 8) in
     let last = u32_at b (at + 12) in
-    if eqb kind 0 then eqb left 0 && eqb right 0 && eqb last 0
-    else if eqb kind 1 then eqb left 0 && finite (f64_at b (at + 8))
-    else if eqb kind 2 then ltb left 16 && eqb right 0 && eqb last 0
-    else if eqb kind 3 then ltb left k && ltb right k && eqb last 0
+    when eqb kind 0 then eqb left 0 && eqb right 0 && eqb last 0
+    else when eqb kind 1 then eqb left 0 && finite (f64_at b (at + 8))
+    else when eqb kind 2 then ltb left 16 && eqb right 0 && eqb last 0
+    else when eqb kind 3 then ltb left k && ltb right k && eqb last 0
     else false
 
 -- a node's tree, by the trees of the nodes before it

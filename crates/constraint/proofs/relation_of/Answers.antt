@@ -1,31 +1,31 @@
 -- `constraint::relation_of` meets its contract. Assumes nothing.
 use borrow.Author.Tests.{ne_eqb}
 use Rattle.constraint.specs.Records.{relation_of}
-use Rattle.number.specs.Notation.{if◌then◌else◌}
+use Rattle.number.specs.Notation.{when◌then◌else◌}
 use Rattle.constraint.proofs.relation_of.Goals as goal
 
 pub returns-in-0 : goal.returns-in-0
-unfolding relation_of if◌then◌else◌
+unfolding relation_of when◌then◌else◌
 returns-in-0 c = simp c.in-0.is
 
 pub returns-in-1 : goal.returns-in-1
-unfolding relation_of if◌then◌else◌
+unfolding relation_of when◌then◌else◌
 returns-in-1 c = simp c.in-1.is
 
 pub returns-in-2 : goal.returns-in-2
-unfolding relation_of if◌then◌else◌
+unfolding relation_of when◌then◌else◌
 returns-in-2 c = simp c.in-2.is
 
 pub returns-in-3 : goal.returns-in-3
-unfolding relation_of if◌then◌else◌
+unfolding relation_of when◌then◌else◌
 returns-in-3 c = simp c.in-3.is
 
 pub returns-in-4 : goal.returns-in-4
-unfolding relation_of if◌then◌else◌
+unfolding relation_of when◌then◌else◌
 returns-in-4 c = simp c.in-4.is
 
 pub returns-in_default : goal.returns-in_default
-unfolding relation_of if◌then◌else◌
+unfolding relation_of when◌then◌else◌
 returns-in_default c =
     let r = c.in_default.in_default-own.rest in
     simp (ne_eqb _ _ r.1, ne_eqb _ _ r.0.1, ne_eqb _ _ r.0.0.1, ne_eqb _ _ r.0.0.0.1, ne_eqb _ _ r.0.0.0.0.1)

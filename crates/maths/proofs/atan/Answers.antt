@@ -1,7 +1,7 @@
 -- `maths::atan` meets its contract. Assumes nothing.
 use mathlib.Core.Path.{◌≡◌, refl}
 use lib.Ieee.{nan_bits, of_bits, round}
-use Rattle.number.specs.Notation.{if◌then◌else◌, bits, decimal}
+use Rattle.number.specs.Notation.{when◌then◌else◌, bits, decimal}
 use Rattle.maths.specs.Trig.{atan_of}
 use Rattle.number.specs.Literals.{one_is, zero_is}
 use Rattle.maths.proofs.atan.Goals as goal
@@ -15,9 +15,9 @@ unfolding nan_bits
 float_from_bits-atan_at c = tt
 
 pub returns-then-t : goal.returns-then-t
-unfolding atan_of if◌then◌else◌
+unfolding atan_of when◌then◌else◌
 returns-then-t c = simp (end_is, c.if-t.true) (cc (c.atan_at.ensures, one_is))
 
 pub returns-else-t : goal.returns-else-t
-unfolding atan_of if◌then◌else◌
+unfolding atan_of when◌then◌else◌
 returns-else-t c = simp (end_is, c.if-t.false) (cc (c.atan_at-else-t.ensures, zero_is))

@@ -11,7 +11,7 @@ use lib.Ieee.Compare.{differs_from_itself}
 use mir.Syntax.{w64}
 use mir.ValLaws.{to_z-of_z}
 use Rattle.number.specs.Near.{nearest, below}
-use Rattle.number.specs.Notation.{if◌then◌else◌, whole, integer, bits}
+use Rattle.number.specs.Notation.{when◌then◌else◌, whole, integer, bits}
 use Rattle.maths.specs.Exp.{exp_of, exp_at}
 use Rattle.number.specs.Order.{nan_test}
 use Rattle.number.specs.Literals.{zero_is, infinite}
@@ -33,15 +33,15 @@ real : (c : Else-x) → is_nan c.args.x ≡ false
 real c = nan_test c.args.x ∙ c.if-x.false
 
 pub returns-then-x : goal.returns-then-x
-unfolding exp_of if◌then◌else◌
+unfolding exp_of when◌then◌else◌
 returns-then-x c = simp (nan_test, c.if-x.true) (differs_from_itself c.args.x (subst T (sym c.if-x.true) tt))
 
 pub returns-then-x-2 : goal.returns-then-x-2
-unfolding exp_of if◌then◌else◌
+unfolding exp_of when◌then◌else◌
 returns-then-x-2 c = simp (real (goal.at.returns-then-x-2 c).Else-x, most, c.if-x-2.true, infinite)
 
 pub returns-then-x-3 : goal.returns-then-x-3
-unfolding exp_of if◌then◌else◌
+unfolding exp_of when◌then◌else◌
 returns-then-x-3 c = simp (real (goal.at.returns-then-x-3 c).Else-x, most, least, c.if-x-2.false, c.if-x-3.true, zero_is)
 
 pub float_from_bits-nearest : goal.float_from_bits-nearest
@@ -78,7 +78,7 @@ pub scale-requires : goal.scale-requires
 scale-requires c = omega (arith, small (goal.at.scale-requires c).After-nearest-k)
 
 pub returns : goal.returns
-unfolding exp_of exp_at if◌then◌else◌
+unfolding exp_of exp_at when◌then◌else◌
 returns c =
     let k = k_is (goal.at.returns c).After-nearest-k in
     simp (real (goal.at.returns c).Else-x, most, least, c.if-x-2.false, c.if-x-3.false)

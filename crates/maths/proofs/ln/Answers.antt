@@ -14,7 +14,7 @@ use lib.Ieee.Compare.{differs_from_itself}
 use lib.Ieee.Positive.{positive}
 use mir.Syntax.{w64}
 use mir.ValLaws.{to_z-of_z}
-use Rattle.number.specs.Notation.{if◌then◌else◌, bits}
+use Rattle.number.specs.Notation.{when◌then◌else◌, bits}
 use Rattle.maths.specs.Ln.{ln_of, ln_from}
 use Rattle.number.specs.Literals.{zero_is, two_is, infinite, minus_infinite, undefined}
 use Rattle.number.specs.Order.{nan_test}
@@ -49,15 +49,15 @@ real : (c : Else-x) → is_nan c.args.x ≡ false
 real c = nan_test c.args.x ∙ c.if-x.false
 
 pub returns-then-x : goal.returns-then-x
-unfolding ln_of if◌then◌else◌
+unfolding ln_of when◌then◌else◌
 returns-then-x c = simp (nan_test, c.if-x.true) (differs_from_itself c.args.x (subst T (sym c.if-x.true) tt))
 
 pub returns-then-x-2 : goal.returns-then-x-2
-unfolding ln_of if◌then◌else◌
+unfolding ln_of when◌then◌else◌
 returns-then-x-2 c = simp (real (goal.at.returns-then-x-2 c).Else-x, zero_is, c.if-x-2.true, undefined)
 
 pub returns-then-x-3 : goal.returns-then-x-3
-unfolding ln_of if◌then◌else◌
+unfolding ln_of when◌then◌else◌
 returns-then-x-3 c = simp (real (goal.at.returns-then-x-3 c).Else-x, zero_is, c.if-x-2.false, c.if-x-3.true, minus_infinite)
 
 -- the test for +inf
@@ -68,7 +68,7 @@ under_inf : (c : Else-x-4) → eq c.args.x (inf false) ≡ false
 under_inf c = ap (eq c.args.x) (sym infinite) ∙ c.if-x-4.false
 
 pub returns-then-x-4 : goal.returns-then-x-4
-unfolding ln_of if◌then◌else◌
+unfolding ln_of when◌then◌else◌
 returns-then-x-4 c = simp (real (goal.at.returns-then-x-4 c).Else-x, zero_is, c.if-x-2.false, c.if-x-3.false, at_inf (goal.at.returns-then-x-4 c).Then-x-4) (is_inf _ (at_inf (goal.at.returns-then-x-4 c).Then-x-4))
 
 pub split-p-requires : goal.split-p-requires
@@ -101,7 +101,7 @@ pub ln_at-requires-else-m : goal.ln_at-requires-else-m
 ln_at-requires-else-m c = rw (e_is (goal.at.ln_at-requires-else-m c).After-split-p) (omega (arith, c.split-p.ensures.2))
 
 pub returns-then-m : goal.returns-then-m
-unfolding ln_of ln_from if◌then◌else◌
+unfolding ln_of ln_from when◌then◌else◌
 returns-then-m c =
     let e = e_is (goal.at.returns-then-m c).After-split-p in
     let n = to_z-of_z w64 _ (overflow_add-e (goal.at.returns-then-m c).Then-m) in
@@ -109,7 +109,7 @@ returns-then-m c =
     (cc (c.ln_at.ensures, e, n, two_is))
 
 pub returns-else-m : goal.returns-else-m
-unfolding ln_of ln_from if◌then◌else◌
+unfolding ln_of ln_from when◌then◌else◌
 returns-else-m c =
     let e = e_is (goal.at.returns-else-m c).After-split-p in
     simp (real (goal.at.returns-else-m c).Else-x, zero_is, c.if-x-2.false, c.if-x-3.false, under_inf (goal.at.returns-else-m c).Else-x-4, sym c.split-p.ensures.0, sym c.split-p.ensures.1, c.if-m.false)

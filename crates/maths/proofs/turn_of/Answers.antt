@@ -5,7 +5,7 @@ use Prim.Native.Nat.{◌^◌}
 use lib.Ieee.{is_nan, lt, of_bits, of_int}
 use mir.Syntax.{w64}
 use mir.ValLaws.{to_z-of_z}
-use Rattle.number.specs.Notation.{if◌then◌else◌, bits, whole}
+use Rattle.number.specs.Notation.{when◌then◌else◌, bits, whole}
 use Rattle.number.specs.Sign.{abs_of}
 use Rattle.number.specs.Order.{nan_test}
 use Rattle.number.specs.Cast.{again}
@@ -22,11 +22,11 @@ real : (c : Else-b) → is_nan c.args.b ≡ false
 real c = nan_test c.args.b ∙ c.if-b.false
 
 pub returns-then-b : goal.returns-then-b
-unfolding turn_of if◌then◌else◌
+unfolding turn_of when◌then◌else◌
 returns-then-b c = simp (nan_test, c.if-b.true)
 
 pub returns-then-abs : goal.returns-then-abs
-unfolding turn_of if◌then◌else◌
+unfolding turn_of when◌then◌else◌
 returns-then-abs c = simp (real (goal.at.returns-then-abs c).Else-b, far, sym c.abs.ensures, c.if-abs.true)
 
 near : (c : Else-abs) → lt (bits 0x4130_0000_0000_0000) (abs_of c.args.b) ≡ false
@@ -45,7 +45,7 @@ pub rest_of-requires : goal.rest_of-requires
 rest_of-requires c = rw (n_is (goal.at.rest_of-requires c).After-turns_of-n) c.turns_of-n.ensures.1
 
 pub returns : goal.returns
-unfolding turn_of if◌then◌else◌
+unfolding turn_of when◌then◌else◌
 returns c =
     simp (real (goal.at.returns c).Else-b, far, near (goal.at.returns c).Else-abs)
     (cc (n_is (goal.at.returns c).After-turns_of-n, c.turns_of-n.ensures.0, c.quarter_of.ensures, c.rest_of.ensures))

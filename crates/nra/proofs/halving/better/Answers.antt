@@ -1,11 +1,11 @@
 -- `nra::halving::better` meets its contract. Assumes nothing.
-use Rattle.number.specs.Notation.{if◌then◌else◌}
+use Rattle.number.specs.Notation.{when◌then◌else◌}
 use Rattle.nra.proofs.halving.better.Goals as goal
 
 pub returns-then-low-high : goal.returns-then-low-high
-unfolding if◌then◌else◌
+unfolding when◌then◌else◌
 returns-then-low-high c = rw c.if-low-high.true
 
 pub returns : goal.returns
-unfolding if◌then◌else◌
+unfolding when◌then◌else◌
 returns c = rw c.if-low-high.false

@@ -1,13 +1,13 @@
 -- `point::eval::variable` meets its contract. Assumes nothing.
 use borrow.Author.Tests.{lt-ltb, le-ltb}
-use Rattle.number.specs.Notation.{if◌then◌else◌}
+use Rattle.number.specs.Notation.{when◌then◌else◌}
 use Rattle.point.specs.Eval.{variable}
 use Rattle.point.proofs.eval.variable.Goals as goal
 
 pub returns-then-point-i : goal.returns-then-point-i
-unfolding variable if◌then◌else◌
+unfolding variable when◌then◌else◌
 returns-then-point-i c = simp (le-ltb _ _ c.if-point-i.true)
 
 pub returns : goal.returns
-unfolding variable if◌then◌else◌
+unfolding variable when◌then◌else◌
 returns c = simp (lt-ltb _ _ c.if-point-i.false, c.real.ensures)
