@@ -5,7 +5,7 @@ usage: tools/spelling.py [--check]        at the top of the repository, once, on
 
 `nextUp` becomes `next_up`, `chosen-first` becomes `chosen_first`, `exp--746` becomes `exp_minus_746`. A name that begins with a capital stays, and so do the names of
 src/, of folders and modules, of what a proof file answers, and of a library. A name is turned where a file declares it, imports it from a crate of this repository or
-has it behind a dot, in `specs/`, `proofs/`, clauses and must-fail edits.
+has it behind a dot, in `specs/`, `proofs/`, clauses and must-fail edits. So is what clauses say of references and of a choice: see `references` and `conditional`.
 """
 
 import glob
@@ -41,6 +41,32 @@ def conditional(path, text):
             code, dashes, comment = line.partition("--") if path.endswith(".antt") and line.lstrip().startswith("--") else (line, "", "")
             lines[i] = re.sub(r"(?<![^\s(])if (?=\S)", "when ", code) + dashes + comment
     return "\n".join(lines)
+
+
+def references(path, text):
+    """What a `&` points to is `x.now`. `old x` and `final x`, and `before lo hi` of boxes, are of a `&mut`."""
+    if not path.endswith(".rt"):
+        return text
+
+    def turn(m):
+        head = m[0]
+        lent = dict(re.findall(r"\b(\w+)\s*:\s*&(mut )?", re.split(r"\n *(?:requires|ensures)\b", head)[0]))
+        for x, mut in lent.items():
+            if not mut:
+                head = re.sub(rf"\(old {x}\)|\bold {x}\b", f"{x}.now", head)
+        for lo, hi in re.findall(r"\bbefore (\w+) (\w+)", head):
+            if lent.get(lo) == lent.get(hi) == "":
+                head = head.replace(f"before {lo} {hi}", f"intervals {lo}.now {hi}.now")
+        return head
+
+    return re.sub(r'^( *)(?:pub )?(?:extern "C" )?fn \w+.*?^\1\{', turn, text, flags=re.S | re.M)
+
+
+def aliases(text):
+    """Another name that a file gives an import."""
+    for name in set(re.findall(r" as ([a-z]+[A-Z]\w*)", text)):
+        text = re.sub(rf"(?<![\w.-]){name}(?![\w-])", spelled(name), text)
+    return text
 
 
 def files(*ends):
@@ -85,7 +111,7 @@ def main():
             in_path = m.string[m.start() - 1 : m.start()] == "." or m.string[m.end() : m.end() + 1] == "."
             return w if in_path and w in TWICE else scope.get(w, w)
 
-        new = conditional(f, TOKEN.sub(turn, t))
+        new = aliases(references(f, conditional(f, TOKEN.sub(turn, t))))
         if new != t and "--check" not in sys.argv:
             open(f, "w", encoding="utf-8").write(new)
     print(f"spelling: {len(turned)} names turned")

@@ -16,7 +16,7 @@ use Rattle.constraint.specs.Constraint.{Constraint}
 use Rattle.file.specs.File.{Read, read_given}
 use Rattle.narrow.specs.declared.Propagated.{Propagated}
 use Rattle.narrow.specs.Narrowing.{propagate}
-use Rattle.narrow.specs.Given.{tested, answered as answeredBy}
+use Rattle.narrow.specs.Given.{tested, answered as answered_by}
 use Rattle.lent.specs.Lent.{propagate_lent}
 use Rattle.lent.specs.Copies.{blank_of, over, load_of, Narrows, is_refusal}
 use Rattle.lent.specs.declared.Narrowed.{Narrowed}
@@ -24,7 +24,7 @@ use Rattle.lent.proofs.Copying.{taken, over_takes}
 
 -- what the narrowing of b does, once the records are read
 abbrev narrowing : Settings → List Interval → Constraint → Leaving Propagated (List Interval)
-narrowing σ b c = answeredBy (λ x. x) (propagate σ c b)
+narrowing σ b c = answered_by (λ x. x) (propagate σ c b)
 
 -- a refusal leaves the list itself
 refusal_leaves : (σ : Settings) (r : Read) (t : Bool) (b : List Interval) → T (is_refusal (tested r t b (narrowing σ b)).answer) → (tested r t b (narrowing σ b)).places ≡ b

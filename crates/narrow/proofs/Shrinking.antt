@@ -26,7 +26,7 @@ use Rattle.narrow.specs.declared.Target.{Target}
 use Rattle.narrow.specs.declared.Target.TheVariants.{Stop, Out, Nudge}
 use Rattle.narrow.specs.declared.Tightened.{Tightened}
 use Rattle.narrow.specs.Narrowing.{Narrowed, eml_interval, forward, eval_interval, left_of, ask_real, ask_of, demand, ask_both, narrow_var, backward, eps, target_of}
-use Rattle.narrow.specs.Narrowing.{nudge_var, nudge_tree, aim, narrow_to, narrow_atom, continue, hulls, hull_with, survive, tightened, adopt, adopt_survivors, round as roundBy, round_all, survivors, propagate_once, again, rounds}
+use Rattle.narrow.specs.Narrowing.{nudge_var, nudge_tree, aim, narrow_to, narrow_atom, continue, hulls, hull_with, survive, tightened, adopt, adopt_survivors, round as round_by, round_all, survivors, propagate_once, again, rounds}
 use Rattle.narrow.specs.Held.{TreeHeld, ConstraintHeld, ConstraintsHeld}
 
 -- what a step leaves is b, narrowed
@@ -273,9 +273,9 @@ continue_leaves a x next p q = either (Leaves a) _ _ _ p (next_leaves a x next p
 
 module _ (σ : Settings) (under : Constraint → List Interval → Narrowed) (u : Round under) where
   mutual
-    unfolding roundBy
+    unfolding round_by
 
-    round_leaves : (c : Constraint) (b : List Interval) → ConstraintHeld c → Each Proper b → Leaves b (roundBy σ under c b)
+    round_leaves : (c : Constraint) (b : List Interval) → ConstraintHeld c → Each Proper b → Leaves b (round_by σ under c b)
     round_leaves (Atom rel t) b f g = atom_leaves σ rel t b f g
     round_leaves (Not c) b f g = u c b f g
     round_leaves (And cs) b f g = all_leave cs b f g
@@ -286,13 +286,13 @@ module _ (σ : Settings) (under : Constraint → List Interval → Narrowed) (u 
     all_leave : (cs : Constraints) (b : List Interval) → ConstraintsHeld cs → Each Proper b → Leaves b (round_all σ under cs b)
     all_leave end b f g = narrower_refl b g
     all_leave (c ⨾ cs) b f g =
-        let x = roundBy σ under c b in
+        let x = round_by σ under c b in
         continue_leaves b x (round_all σ under cs) (round_leaves c b f.0 g) (λ h. all_leave cs x.places f.1 h)
 
     survivors_ends : (cs : Constraints) (b : List Interval) (hs : Option (List Interval)) → ConstraintsHeld cs → Each Proper b → EachIn hs → EachIn (survivors σ under cs b hs)
     survivors_ends end b hs f g a = a
     survivors_ends (c ⨾ cs) b hs f g a =
-        let x = roundBy σ under c b in
+        let x = round_by σ under c b in
         survivors_ends cs b (survive hs x) f.1 g (survive_ends hs x a (proper_ends x.places (round_leaves c b f.0 g).proper))
 
 once_leaves : (σ : Settings) → Round (propagate_once σ)

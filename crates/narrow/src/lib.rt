@@ -13,7 +13,7 @@ ghost use Rattle.constraint.specs.Views.{those, the};
 ghost use Rattle.interval.specs.Views.{before, after};
 ghost use Rattle.settings.specs.Settings.{usual};
 ghost use Rattle.narrow.specs.declared.Values.TheVariants.{Within};
-ghost use Rattle.narrow.specs.Narrowing.{is_conflict, is_changed, worse_of, eml_interval, forward, eval_interval, left_of, ask_real, ask_of, demand as demandOf, ask_both, fixed_at, narrow_var, backward, backward_eml, target_of, nudge_var, nudge_tree, narrow_atom, hulls, survive as surviveOf, tightened, adopt as adoptOf, adopt_survivors, propagate as propagateOf};
+ghost use Rattle.narrow.specs.Narrowing.{is_conflict, is_changed, worse_of, eml_interval, forward, eval_interval, left_of, ask_real, ask_of, demand as demand_of, ask_both, fixed_at, narrow_var, backward, backward_eml, target_of, nudge_var, nudge_tree, narrow_atom, hulls, survive as survive_of, tightened, adopt as adopt_of, adopt_survivors, propagate as propagate_of};
 ghost use Rattle.narrow.specs.Modes.{in_mode, is_negated, under_not, relation_in, survivors_of, several_of, step_of, pass, pass_all, pass_any};
 ghost use Rattle.narrow.specs.Aiming.{aim_at};
 ghost use Rattle.narrow.specs.Given.{propagate_given};
@@ -211,7 +211,7 @@ fn narrow_var(
 // What an Eml of nodes a and b, which is to lie in out, asks of them.
 fn demand_of(nodes: &[u8], a: usize, b: usize, out: Interval, lo: &[f64], hi: &[f64]) -> Demand
     requires { Valid nodes.now (a + 1) × Valid nodes.now (b + 1) × (length hi.now ≡ length lo.now) }
-    ensures { result ≡ demandOf (eval_interval (intervals lo.now hi.now) (the_tree nodes a)) (eval_interval (intervals lo.now hi.now) (the_tree nodes b)) out }
+    ensures { result ≡ demand_of (eval_interval (intervals lo.now hi.now) (the_tree nodes a)) (eval_interval (intervals lo.now hi.now) (the_tree nodes b)) out }
 {
     let Values::Within(l) = eval_interval(nodes, a, lo, hi) else {
         return Demand::Answer(PropResult::Stable);
@@ -499,7 +499,7 @@ pub struct Survivors {
 // After one more branch, which answered `result` and left b.
 fn survive(before: Survivors, res: PropResult, b: Boxes) -> Survivors
     requires { (before.hull.count ≤ 16) × (b.count ≡ before.hull.count) }
-    ensures { (result.hull.count ≡ before.hull.count) × (survivors_of result ≡ surviveOf (survivors_of before) (res leaving boxes_of b)) }
+    ensures { (result.hull.count ≡ before.hull.count) × (survivors_of result ≡ survive_of (survivors_of before) (res leaving boxes_of b)) }
 {
     if is_conflict(res) {
         return before;
@@ -546,7 +546,7 @@ fn tighten(settings: Settings, hull: Interval, old: Interval) -> Tightened
 // Each box goes to its part inside the hull, where that is not empty and an end moves.
 fn adopt(settings: Settings, hull: Boxes, lo: &mut [f64], hi: &mut [f64]) -> PropResult
     requires { (hull.count ≤ 16) × (length lo.old ≡ hull.count) × (length hi.old ≡ hull.count) }
-    ensures { (result leaving after lo hi) ≡ adoptOf settings (boxes_of hull) (before lo hi) }
+    ensures { (result leaving after lo hi) ≡ adopt_of settings (boxes_of hull) (before lo hi) }
 {
     let mut result = PropResult::Stable;
     let mut i = lo.len();
@@ -770,7 +770,7 @@ fn with_branch(
     before: Survivors,
 ) -> Survivors
     requires { Ready nodes.now constraints.now (k + 1) starts.now × (boxes.count ≤ 16) × (before.hull.count ≡ boxes.count) }
-    ensures { (result.hull.count ≡ boxes.count) × (survivors_of result ≡ surviveOf (survivors_of before) (pass settings mode (the nodes constraints k) (boxes_of boxes))) }
+    ensures { (result.hull.count ≡ boxes.count) × (survivors_of result ≡ survive_of (survivors_of before) (pass settings mode (the nodes constraints k) (boxes_of boxes))) }
 {
     let count = boxes.count;
     let mut lo = boxes.lo;
@@ -802,7 +802,7 @@ pub fn propagate_in_mode(
     hi: &mut [f64],
 ) -> PropResult
     requires { Ready nodes.now constraints.now (k + 1) starts.now × (length hi.old ≡ length lo.old) × (length lo.old ≤ 16) }
-    ensures { (result leaving after lo hi) ≡ propagateOf settings (in_mode mode (the nodes constraints k)) (before lo hi) }
+    ensures { (result leaving after lo hi) ≡ propagate_of settings (in_mode mode (the nodes constraints k)) (before lo hi) }
 {
     let mut done = PropResult::Stable;
     let mut left = settings.rounds;
@@ -829,7 +829,7 @@ pub fn propagate(
     hi: &mut [f64],
 ) -> PropResult
     requires { Ready nodes.now constraints.now (k + 1) starts.now × (length hi.old ≡ length lo.old) × (length lo.old ≤ 16) }
-    ensures { (result leaving after lo hi) ≡ propagateOf settings (the nodes constraints k) (before lo hi) }
+    ensures { (result leaving after lo hi) ≡ propagate_of settings (the nodes constraints k) (before lo hi) }
 {
     propagate_in_mode(
         nodes,
@@ -861,7 +861,7 @@ pub fn narrow_boxes(
     boxes: Boxes,
 ) -> NarrowedBoxes
     requires { Ready nodes.now constraints.now (k + 1) starts.now × (boxes.count ≤ 16) }
-    ensures { (result.boxes.count ≡ boxes.count) × ((result.result leaving boxes_of result.boxes) ≡ propagateOf settings (in_mode mode (the nodes constraints k)) (boxes_of boxes)) }
+    ensures { (result.boxes.count ≡ boxes.count) × ((result.result leaving boxes_of result.boxes) ≡ propagate_of settings (in_mode mode (the nodes constraints k)) (boxes_of boxes)) }
 {
     let count = boxes.count;
     let mut lo = boxes.lo;

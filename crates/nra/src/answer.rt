@@ -2,7 +2,7 @@
 ghost use Rattle.std.specs.Prelude.{◌≡◌, ◌+◌, ◌≤◌};
 ghost use Rattle.interval.specs.Boxes.{boxes_of, midpoints};
 ghost use Rattle.constraint.specs.Starts.{Ready};
-ghost use Rattle.nra.specs.Answers.{asked, progress_of, Working, pointless as pointlessOf, refused_with, solved_of, stop_number, tried};
+ghost use Rattle.nra.specs.Answers.{asked, progress_of, Working, pointless as pointless_of, refused_with, solved_of, stop_number, tried};
 ghost use Rattle.nra.specs.Solver as Solver;
 ghost use Rattle.nra.specs.Solver.{assignment};
 
@@ -46,7 +46,7 @@ pub struct Solved {
 }
 
 pub fn pointless(refusal: u8, stop: Stop, residual: f64, halvings: usize) -> Solved
-    ensures { result ≡ pointlessOf refusal stop residual halvings }
+    ensures { result ≡ pointless_of refusal stop residual halvings }
 {
     Solved {
         refusal,

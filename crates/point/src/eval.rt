@@ -3,7 +3,7 @@ ghost use Rattle.std.specs.Prelude.{◌≡◌, [], ◌<◌, ◌≤◌, ◌+◌, 
 ghost use Rattle.std.specs.Float.Ieee.{is_nan};
 ghost use Rattle.tree.specs.Tree.{size};
 ghost use Rattle.tree.specs.Nodes.{Valid, tree_at};
-ghost use Rattle.point.specs.Eval.{real as realOf, clamped, beyond, eml_complex, variable as variableOf, eval_complex, real_part, eval_real};
+ghost use Rattle.point.specs.Eval.{real as real_of, clamped, beyond, eml_complex, variable as variable_of, eval_complex, real_part, eval_real};
 ghost use Rattle.point.specs.Machine.{instruction_of, instructions, value_at, Flattened, Runs, run as running, result as outcome};
 ghost use Rattle.tree.specs.Views.{the_tree};
 ghost use Rattle.record.specs.Views.{old, final};
@@ -119,13 +119,13 @@ fn eml_complex(settings: Settings, left: Complex, right: Complex) -> EvaluatedCo
 }
 
 fn real(x: f64) -> Complex
-    ensures { result ≡ realOf x }
+    ensures { result ≡ real_of x }
 {
     Complex { re: x, im: 0.0 }
 }
 
 fn variable(i: usize, point: &[f64]) -> EvaluatedComplex
-    ensures { result ≡ variableOf point.now i }
+    ensures { result ≡ variable_of point.now i }
 {
     if point.len() <= i {
         return EvaluatedComplex::Failed(EvalError::VarOutOfBounds(i, point.len()));

@@ -11,7 +11,7 @@ ghost use Rattle.constraint.specs.Views.{the, those};
 ghost use Rattle.point.specs.Room.{Room};
 ghost use Rattle.point.specs.Eval.{eval_real};
 ghost use Rattle.point.specs.Check.{holds as holds_of, passes, check};
-ghost use Rattle.point.specs.Residual.{shortfall as shortfallOf, error_value, value_or, residual_of_not, residual};
+ghost use Rattle.point.specs.Residual.{shortfall as shortfall_of, error_value, value_or, residual_of_not, residual};
 ghost use Rattle.point.specs.Code.{shape_of, joined, quantified, samples_of, residual_of_none, one_more, sample_more};
 ghost use Rattle.record.specs.Views.{old};
 
@@ -249,7 +249,7 @@ fn error_value(relation: Relation) -> f64
 }
 
 fn shortfall(relation: Relation, v: f64) -> f64
-    ensures { result ≡ shortfallOf relation v }
+    ensures { result ≡ shortfall_of relation v }
 {
     match relation {
         Relation::EqZero => number::abs(v),
@@ -271,7 +271,7 @@ fn residual_of_atom(
 ) -> f64
     requires valid { Valid nodes.now (i + 1) }
     requires i_in_bounds { size (tree_at nodes.now i) ≤ length order.old }
-    ensures { result ≡ shortfallOf relation (value_or (error_value relation) (eval_real settings point.now (the_tree nodes i))) }
+    ensures { result ≡ shortfall_of relation (value_or (error_value relation) (eval_real settings point.now (the_tree nodes i))) }
 {
     match super::eval::eval_real(nodes, i, settings, point, order) {
         Evaluated::Value(v) => shortfall(relation, v),

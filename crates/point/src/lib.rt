@@ -14,7 +14,7 @@ ghost use Rattle.constraint.specs.Views.{the};
 ghost use Rattle.file.specs.Code.{given_starts};
 ghost use Rattle.point.specs.Eval.{eval_real};
 ghost use Rattle.point.specs.Check.{check};
-ghost use Rattle.point.specs.Residual.{residual as residualOf};
+ghost use Rattle.point.specs.Residual.{residual as residual_of};
 ghost use Rattle.point.specs.Answer.{eval_refusal, eval_answer, point_refusal, check_answer, residual_answer};
 ghost use Rattle.tree.specs.Views.{the_tree};
 ghost use Rattle.record.specs.Views.{old, final};
@@ -191,7 +191,7 @@ fn residual_sized(
 ) -> f64
     requires ready { Ready nodes.now constraints.now (k + 1) starts.now }
     requires within { Within nodes.now (length nodes.now / 16) largest × (length point.now ≤ 16) }
-    ensures { result ≡ residualOf settings point.now (the nodes constraints k) }
+    ensures { result ≡ residual_of settings point.now (the nodes constraints k) }
 {
     if largest <= 64 {
         let mut order = [0u16; 64];

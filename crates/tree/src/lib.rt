@@ -12,7 +12,7 @@ ghost use Rattle.record.specs.Leaving.{◌leaving◌};
 ghost use Rattle.tree.specs.Tree.{tree_vars};
 ghost use Rattle.tree.specs.Nodes.{node_at, is_node, node_refusal, nodes_refusal, nodes_fit, list_refusal, Valid};
 ghost use Rattle.tree.specs.Code.{right_end, left_end, chosen, size_at, depth_at, size_by, depth_by, Known, KnownBoth, largest, list_largest, Measured, operands_refusal, result_refusal};
-ghost use Rattle.tree.specs.Canonical.{ln_nodes, sub_nodes, ln_refusal, sub_refusal, ln as ln_of, sub as subOf};
+ghost use Rattle.tree.specs.Canonical.{ln_nodes, sub_nodes, ln_refusal, sub_refusal, ln as ln_of, sub as sub_of};
 ghost use Rattle.tree.specs.Encoding.{node_bytes, nodes_bytes};
 ghost use Rattle.tree.specs.Views.{the_tree};
 ghost use Rattle.record.specs.Views.{old, final};
@@ -420,7 +420,7 @@ impl Canonical {
 
     // x - y: appends One, the four of ln x, exp_y, result.
     pub fn sub(nodes: &mut [u8], count: usize, x: usize, y: usize) -> Appended
-        ensures { (result leaving final nodes) ≡ subOf (old nodes) count x y }
+        ensures { (result leaving final nodes) ≡ sub_of (old nodes) count x y }
     {
         let r = sub_refusal(nodes, count, x, y);
         if r != 0 {

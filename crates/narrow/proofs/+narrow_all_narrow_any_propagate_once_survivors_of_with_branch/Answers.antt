@@ -7,7 +7,7 @@ use Rattle.interval.specs.declared.Interval.{Interval}
 use Rattle.interval.specs.Boxes.{boxes_of}
 use Rattle.record.specs.Leaving.{◌leaving◌}
 use Rattle.constraint.specs.RecordLaws.{record_there, some, none_taken, start_falls, before_last, last, up_to_lem}
-use Rattle.narrow.specs.Narrowing.{survive as surviveOf}
+use Rattle.narrow.specs.Narrowing.{survive as survive_of}
 use Rattle.narrow.proofs.Passes.{all_stops, all_goes_on, any_more, all_none, any_none, fine, does, copied, one_of, crossed}
 use Rattle.narrow.proofs.+narrow_all_narrow_any_propagate_once_survivors_of_with_branch.Goals as goal
 
@@ -142,4 +142,4 @@ pub with_branch-returns : goal.with_branch-returns
 unfolding boxes_of
 with_branch-returns t c =
     let e = crossed _ _ _ _ _ (c.propagate_once-result.auto.lo ∙ length-take-le _ _ (omega (arith, c.requires.1, c.well_formed.1.1.1.1.1.1.0.1.1.0.1.0.1))) (c.propagate_once-result.auto.hi ∙ length-take-le _ _ (omega (arith, c.requires.1, c.well_formed.1.1.1.1.1.1.0.1.1.1.0.1.0.1))) in
-    (c.survive.ensures.0 ∙ c.requires.2, c.survive.ensures.1 ∙ ap (surviveOf _) (ap (λ (x : List Interval). c.propagate_once-result.result leaving x) e ∙ c.propagate_once-result.ensures))
+    (c.survive.ensures.0 ∙ c.requires.2, c.survive.ensures.1 ∙ ap (survive_of _) (ap (λ (x : List Interval). c.propagate_once-result.result leaving x) e ∙ c.propagate_once-result.ensures))
