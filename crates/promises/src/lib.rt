@@ -1,3 +1,2 @@
-#![tactic(auto)]
-
 // The customer's promises, as theorems: see specs/. There is no code here.
+#![tactic(auto)]

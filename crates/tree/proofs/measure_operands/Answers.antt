@@ -48,13 +48,19 @@ pub bounds-size-x : goal.bounds-size-x
 bounds-size-x c = omega (arith, (fit_parts _ _ (sym c.nodes_fit.ensures ∙ c.if-not-nodes_fit.false)).0)
 
 pub overflow_cast-a : goal.overflow_cast-a
-overflow_cast-a c = omega (arith, (held _ _ (sym c.nodes_fit.ensures ∙ c.if-not-nodes_fit.false) (sym c.if-t-ne0.false ∙ c.test_nodes-t.ensures.refusal_value) _ _ _ (fit_parts _ _ (sym c.nodes_fit.ensures ∙ c.if-not-nodes_fit.false)).0 c.test_nodes-t.ensures.size_value c.test_nodes-t.ensures.depth_value _ c.if-count-x.false).small)
+overflow_cast-a c =
+    let fit = sym c.nodes_fit.ensures ∙ c.if-not-nodes_fit.false in
+    let e = c.test_nodes-t.ensures in
+    omega (arith, (held _ _ fit (sym c.if-t-ne0.false ∙ c.test_nodes-t.ensures.refusal_value) _ _ _ (fit_parts _ _ fit).0 e.size_value e.depth_value _ c.if-count-x.false).small)
 
 pub bounds-depth-x : goal.bounds-depth-x
 bounds-depth-x c = omega (arith, (fit_parts _ _ (sym c.nodes_fit.ensures ∙ c.if-not-nodes_fit.false)).0)
 
 pub overflow_cast-a-2 : goal.overflow_cast-a-2
-overflow_cast-a-2 c = omega (arith, (held _ _ (sym c.nodes_fit.ensures ∙ c.if-not-nodes_fit.false) (sym c.if-t-ne0.false ∙ c.test_nodes-t.ensures.refusal_value) _ _ _ (fit_parts _ _ (sym c.nodes_fit.ensures ∙ c.if-not-nodes_fit.false)).0 c.test_nodes-t.ensures.size_value c.test_nodes-t.ensures.depth_value _ c.if-count-x.false).shallow)
+overflow_cast-a-2 c =
+    let fit = sym c.nodes_fit.ensures ∙ c.if-not-nodes_fit.false in
+    let e = c.test_nodes-t.ensures in
+    omega (arith, (held _ _ fit (sym c.if-t-ne0.false ∙ c.test_nodes-t.ensures.refusal_value) _ _ _ (fit_parts _ _ fit).0 e.size_value e.depth_value _ c.if-count-x.false).shallow)
 
 pub offset_bounds-size-y : goal.offset_bounds-size-y
 offset_bounds-size-y c = omega (arith, (fit_parts _ _ (sym c.nodes_fit.ensures ∙ c.if-not-nodes_fit.false)).0)
@@ -63,19 +69,27 @@ pub bounds-size-y : goal.bounds-size-y
 bounds-size-y c = omega (arith, (fit_parts _ _ (sym c.nodes_fit.ensures ∙ c.if-not-nodes_fit.false)).0)
 
 pub overflow_cast-b : goal.overflow_cast-b
-overflow_cast-b c = omega (arith, (held _ _ (sym c.nodes_fit.ensures ∙ c.if-not-nodes_fit.false) (sym c.if-t-ne0.false ∙ c.test_nodes-t.ensures.refusal_value) _ _ _ (fit_parts _ _ (sym c.nodes_fit.ensures ∙ c.if-not-nodes_fit.false)).0 c.test_nodes-t.ensures.size_value c.test_nodes-t.ensures.depth_value _ c.if-count-y.false).small)
+overflow_cast-b c =
+    let fit = sym c.nodes_fit.ensures ∙ c.if-not-nodes_fit.false in
+    let e = c.test_nodes-t.ensures in
+    omega (arith, (held _ _ fit (sym c.if-t-ne0.false ∙ c.test_nodes-t.ensures.refusal_value) _ _ _ (fit_parts _ _ fit).0 e.size_value e.depth_value _ c.if-count-y.false).small)
 
 pub bounds-depth-y : goal.bounds-depth-y
 bounds-depth-y c = omega (arith, (fit_parts _ _ (sym c.nodes_fit.ensures ∙ c.if-not-nodes_fit.false)).0)
 
 pub overflow_cast-b-2 : goal.overflow_cast-b-2
-overflow_cast-b-2 c = omega (arith, (held _ _ (sym c.nodes_fit.ensures ∙ c.if-not-nodes_fit.false) (sym c.if-t-ne0.false ∙ c.test_nodes-t.ensures.refusal_value) _ _ _ (fit_parts _ _ (sym c.nodes_fit.ensures ∙ c.if-not-nodes_fit.false)).0 c.test_nodes-t.ensures.size_value c.test_nodes-t.ensures.depth_value _ c.if-count-y.false).shallow)
+overflow_cast-b-2 c =
+    let fit = sym c.nodes_fit.ensures ∙ c.if-not-nodes_fit.false in
+    let e = c.test_nodes-t.ensures in
+    omega (arith, (held _ _ fit (sym c.if-t-ne0.false ∙ c.test_nodes-t.ensures.refusal_value) _ _ _ (fit_parts _ _ fit).0 e.size_value e.depth_value _ c.if-count-y.false).shallow)
 
 pub returns : goal.returns
 returns c =
     let fit = sym c.nodes_fit.ensures ∙ c.if-not-nodes_fit.false in
     let none = sym c.if-t-ne0.false ∙ c.test_nodes-t.ensures.refusal_value in
+    let e = c.test_nodes-t.ensures in
+    let few = (fit_parts _ _ fit).0 in
     record {
       refusal_value = named _ _ _ _ fit none c.if-count-x.false c.if-count-y.false;
-      measured = λ _. (held _ _ (sym c.nodes_fit.ensures ∙ c.if-not-nodes_fit.false) (sym c.if-t-ne0.false ∙ c.test_nodes-t.ensures.refusal_value) _ _ _ (fit_parts _ _ (sym c.nodes_fit.ensures ∙ c.if-not-nodes_fit.false)).0 c.test_nodes-t.ensures.size_value c.test_nodes-t.ensures.depth_value _ c.if-count-x.false, held _ _ (sym c.nodes_fit.ensures ∙ c.if-not-nodes_fit.false) (sym c.if-t-ne0.false ∙ c.test_nodes-t.ensures.refusal_value) _ _ _ (fit_parts _ _ (sym c.nodes_fit.ensures ∙ c.if-not-nodes_fit.false)).0 c.test_nodes-t.ensures.size_value c.test_nodes-t.ensures.depth_value _ c.if-count-y.false);
+      measured = λ _. (held _ _ fit none _ _ _ few e.size_value e.depth_value _ c.if-count-x.false, held _ _ fit none _ _ _ few e.size_value e.depth_value _ c.if-count-y.false);
     }

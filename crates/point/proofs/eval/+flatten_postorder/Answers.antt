@@ -22,7 +22,7 @@ bounds-order-at t c =
 
 pub returns-in_default : goal.returns-in_default
 returns-in_default t c =
-    leaf _ _ c.requires.valid _ c.node_in.ensures (opened c.in_default.in_default-own.keys2) _ _ ((omega (arith, positive (tree_at c.args.nodes.now c.args.k))))
+    leaf _ _ c.requires.valid _ c.node_in.ensures (opened c.in_default.in_default-own.keys2) _ _ (omega (arith, positive (tree_at c.args.nodes.now c.args.k)))
 
 pub flatten_postorder-middle-requires : goal.flatten_postorder-middle-requires
 flatten_postorder-middle-requires t c =
@@ -63,5 +63,7 @@ shape_of-order t c =
 
 pub returns : goal.returns
 returns t c =
-    node _ _ c.requires.valid _ _ (sym c.node_in.ensures ∙ c.in-Eml.is) _ _ _ _ _ _ c.flatten_postorder-middle.ensures c.flatten_postorder-end.ensures ((let z = sizes _ _ c.requires.valid _ _ (sym c.node_in.ensures ∙ c.in-Eml.is) in
-    omega (arith, c.flatten_postorder-middle.ensures.next, c.flatten_postorder-middle.auto.order, c.flatten_postorder-end.ensures.next, c.flatten_postorder-end.auto.order, c.requires.k_in_bounds)))
+    let e = sym c.node_in.ensures ∙ c.in-Eml.is in
+    let z = sizes _ _ c.requires.valid _ _ e in
+    let last : c.flatten_postorder-end.result < length c.flatten_postorder-end.new.order = omega (arith, c.flatten_postorder-middle.ensures.next, c.flatten_postorder-middle.auto.order, c.flatten_postorder-end.ensures.next, c.flatten_postorder-end.auto.order, c.requires.k_in_bounds) in
+    node _ _ c.requires.valid _ _ e _ _ _ _ _ _ c.flatten_postorder-middle.ensures c.flatten_postorder-end.ensures last
