@@ -9,6 +9,9 @@ use Rattle.std.proofs.Math.ListN.{get_or, length-set}
 use Rattle.std.proofs.Math.Seq.{get_or-set_other}
 use Rattle.number.specs.Notation.{when◌then◌else◌}
 use Rattle.record.specs.Refusal.{◌or_else◌, ◌unless◌, refused_or, first, passing, filled}
+use Rattle.record.specs.Refused.{number_of}
+use Rattle.record.specs.declared.refusal.Refusal.{Refusal}
+use Rattle.std.specs.Prelude.{Result, Err}
 
 -- ---- two tests
 pub both : (a b : Bool) → (a && b) ≡ true → (a ≡ true) × (b ≡ true)
@@ -103,3 +106,24 @@ module _ (f : ℕ → ℕ) (old : List ℕ) where
       (λ e. subst (λ (j : ℕ). get_or (set (filled f n old) n (f n)) j 0 ≡ f j) (sym e) (get_or-set_same (filled f n old) n (f n) 0 (omega (arith, length_filled n))))
       (λ q. get_or-set_other (filled f n old) n k (f n) 0 (omega arith) ∙ filled_at n k q (omega arith))
       (eq-or-lt_of_le (le_of_suc-le-suc l))
+
+-- ---- what a call answers
+pub never_none : (r : Refusal) → number_of r ≡ 0 → ⊥
+never_none Refusal.Header e = absurd (omega arith)
+never_none Refusal.Counts e = absurd (omega arith)
+never_none Refusal.Node e = absurd (omega arith)
+never_none Refusal.Size e = absurd (omega arith)
+never_none Refusal.Constraint e = absurd (omega arith)
+never_none Refusal.Range e = absurd (omega arith)
+never_none Refusal.Shape e = absurd (omega arith)
+never_none Refusal.Limit e = absurd (omega arith)
+never_none Refusal.Boxes e = absurd (omega arith)
+never_none Refusal.Room e = absurd (omega arith)
+
+-- a test that refuses: so does what begins with it, with the same number
+module _ (r : Refusal) {a : ℕ} (e : number_of r ≡ a) where
+  pub refuses_first : (b : ℕ) → number_of r ≡ (a or_else b)
+  refuses_first b = e ∙ or_else_refused a b (λ z. never_none r (e ∙ z))
+
+  pub refuses : {A : Type 0} (answer : Result A ℕ) → Err (number_of r) ≡ refused_or a Err answer
+  refuses answer = ap Err e ∙ sym (refused_or_lem a Err answer (λ z. never_none r (e ∙ z)))

@@ -1,10 +1,14 @@
-// Little-endian numbers in bytes (document 01, "The file").
+// What every crate of the file's format stands on: little-endian numbers in bytes, and the refusals (document 01, "The file", "Refused").
 #![tactic(auto)]
+
+mod refusal;
 
 ghost use Rattle.std.specs.Prelude.{◌≡◌, ◌+◌, ◌≤◌, ◌<◌, length};
 ghost use Rattle.std.proofs.lemmas.List.Edits.{sets};
 ghost use Rattle.record.specs.Bytes.{u32_at, u64_at, f64_at, u32_bytes, u64_bytes};
 ghost use Rattle.record.specs.Views.{old, final};
+
+pub use refusal::Refusal;
 
 pub fn wide(x: u8) -> u32
     ensures { (result ≡ x) × (result < 256) }
