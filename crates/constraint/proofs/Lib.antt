@@ -1,4 +1,4 @@
-pub mod Lists
-pub mod Stack
+pub mod Testing
+pub mod Read
 pub mod Putting
 pub mod Outcomes

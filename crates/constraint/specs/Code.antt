@@ -1,16 +1,27 @@
 -- What the functions below the tests compute, in the terms of their arguments.
-use Rattle.std.specs.Prelude.{ℕ, suc, ◌+◌, ◌*◌, ◌<◌, max, ◌≡◌, List, [], ◌∷◌, T, length, take, drop}
+use Rattle.std.specs.Prelude.{ℕ, suc, ◌+◌, ◌*◌, ◌<◌, max, ◌≡◌, List, [], ◌∷◌, ◌++◌, T, ltb, Result, Ok, Err, length, map}
 use Rattle.std.specs.Float.{binary64}
 use Rattle.std.specs.Float.Ieee.{fits}
 use Rattle.std.proofs.lemmas.List.Edits.{sets}
+use Rattle.number.specs.Notation.{when◌then◌else◌}
+use Rattle.record.specs.Bytes.{u32_bytes, u64_bytes}
+use Rattle.record.specs.declared.refusal.Refusal.{Refusal}
 use Rattle.tree.specs.Tree.{tree_vars}
 use Rattle.tree.specs.Nodes.{tree_at, Valid}
+use Rattle.constraint.specs.Records.{relation_of}
 use Rattle.constraint.specs.Encoding.{records_bytes}
+use Rattle.constraint.specs.declared.Relation.{Relation}
 use Rattle.constraint.specs.declared.Record.{Record}
+use Rattle.constraint.specs.declared.Words.{Words}
+use Rattle.constraint.specs.declared.stack.Finished.{Finished}
 
--- the elements base..top
-abbrev pub part : ℕ → ℕ → List ℕ → List ℕ
-part base top l = drop base (take top l)
+-- the relation of an atom's kind
+abbrev pub relation_read : ℕ → Result Relation Refusal
+relation_read kind = when ltb kind 6 then Ok (relation_of kind) else Err Refusal.Constraint
+
+-- a record's four numbers, in its bytes
+abbrev pub words_bytes : Words → List ℕ
+words_bytes w = u32_bytes w.kind ++ u32_bytes w.arg ++ u64_bytes w.lo ++ u64_bytes w.hi
 
 unfoldable pub greatest : List ℕ → ℕ
 greatest [] = 0
@@ -24,6 +35,16 @@ binds (Record.And m) = 0
 binds (Record.Or m) = 0
 binds (Record.ForAll v lo hi) = 1
 binds (Record.Exists v lo hi) = 1
+
+-- of finished constraints, by what is kept of each: their depths, quantifiers and first records
+abbrev pub depths : List Finished → List ℕ
+depths cs = map (λ c. c.depth) cs
+
+abbrev pub quantified : List Finished → List ℕ
+quantified cs = map (λ c. c.quantifiers) cs
+
+abbrev pub starts : List Finished → List ℕ
+starts cs = map (λ c. c.start) cs
 
 -- one more than the highest index that it names itself, over the nodes' bytes
 abbrev pub own_vars : List ℕ → Record → ℕ

@@ -1,6 +1,6 @@
 -- What a comparison writes is the Rust's constraint: the atom on x - y. Assumes nothing.
 use Prim.Native.Nat.{ℕ, ◌+◌, ◌*◌, ◌≤◌, ◌<◌}
-use Rattle.std.specs.Prelude.{◌≡◌, true, leb, length, get_or}
+use Rattle.std.specs.Prelude.{◌≡◌, true, Ok, leb, length, get_or}
 use Rattle.std.proofs.Common.{sym, ◌∙◌, zero-add, arith}
 use Rattle.std.proofs.Math.Path.{ap}
 use mathlib.Core.List.{List}
@@ -15,7 +15,6 @@ use Rattle.tree.specs.Nodes.{tree_at}
 use Rattle.tree.specs.Encoding.{nodes_bytes}
 use Rattle.tree.specs.Canonical.{sub_nodes, sub_refusal, sub_tree, sub, append}
 use Rattle.tree.specs.CanonicalLaws.{Means, sub_accepted, sub_appends, refused_at}
-use Rattle.tree.specs.declared.Appended.{Appended}
 use Rattle.constraint.specs.Constraint.{Atom, map_formula, levels, quantifiers}
 use Rattle.constraint.specs.Records.{record_at, is_record, finish, finished, formula_at, constraint_at, record_refusal, records_refusal}
 use Rattle.constraint.specs.Writing.{length_record, record_same, is_record_same, read_back, is_record_lem}
@@ -68,7 +67,7 @@ module _ (rel : Relation) (b : List ℕ) (n x y : ℕ) (out : List ℕ) where
   unfolding sub
   as_sub z = ap (λ (r : ℕ). append r b n (sub_nodes n x y) (n + 6)) z
 
-  pub compares : (k : ℕ) (c o : List ℕ) → compared rel b n x y out ≡ (Appended.At k leaving (c, o)) → Compares rel b c o n k (sub_tree (tree_at b x) (tree_at b y))
+  pub compares : (k : ℕ) (c o : List ℕ) → compared rel b n x y out ≡ (Ok k leaving (c, o)) → Compares rel b c o n k (sub_tree (tree_at b x) (tree_at b y))
   unfolding compared
   compares k c o e =
       let w = not_refused (compare_refusal b n x y out) _ _ (λ m. refused_at) e in

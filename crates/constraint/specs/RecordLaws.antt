@@ -1,5 +1,5 @@
 -- Laws of constraint records that passed: what a function that reads them cites. Assumes nothing.
-use Prim.Native.Nat.{ℕ, zero, suc, ◌+◌, ◌*◌, ◌-◌, ◌≤◌, ◌<◌}
+use Prim.Native.Nat.{ℕ, zero, suc, ◌+◌, ◌*◌, ◌-◌, ◌/◌, ◌≤◌, ◌<◌}
 use Rattle.std.specs.Prelude.{◌≡◌, refl, Bool, true, false, ◌&&◌, T, leb, ltb, eqb, Float, get_or}
 use Rattle.std.proofs.Common.{sym, ◌∙◌, subst, length-append}
 use Rattle.std.proofs.Math.Path.{ap, ap₂}
@@ -12,18 +12,20 @@ use Rattle.std.specs.Float.Ieee.Bits.{of_bits-fits}
 use Rattle.std.proofs.Math.ListN.{length}
 use Rattle.number.specs.Notation.{when◌then◌else◌}
 use Rattle.record.specs.Bytes.{u32_at, u64_at, f64_at}
-use Rattle.record.specs.Refusal.{◌unless◌, first, filled}
-use Rattle.record.specs.RefusalLaws.{both, none_both, none_unless, none_of_each, passing_all, length_filled, filled_at}
+use Rattle.record.specs.Refusal.{◌unless◌, first}
+use Rattle.record.specs.RefusalLaws.{both, none_both, none_unless, none_of_each}
 use Rattle.tree.specs.Nodes.{tree_at, Valid}
 use Rattle.tree.specs.NodeLaws.{prefix as nodes-prefix}
 use Rattle.constraint.specs.Constraint.{Formula, Atom, Not, And, Or, ForAll, Exists, map_formula, levels, quantifiers}
-use Rattle.constraint.specs.Records.{record_at, is_record, is_ranged, takes, gather, none, finish, finished, formula_at, constraint_at, record_refusal, records_refusal}
-use Rattle.constraint.specs.Starts.{start_at, starts_of, formulas_to, up_to, Ready, Taken}
+use Rattle.constraint.specs.Records.{record_at, is_record, is_ranged, takes, none, finish, finished, formula_at, constraint_at, record_refusal, records_refusal}
+use Rattle.constraint.specs.Starts.{start_at, formulas_to, up_to}
+use Rattle.constraint.specs.Views.{record_of, constraint_of, constraints_before, Taken}
 use Rattle.constraint.specs.Code.{Writable}
 use Rattle.constraint.specs.FormulaLaws.{levels_map, quantifiers_map, gather_map}
 use Rattle.constraint.specs.StartLaws.{chain, formula_of, start_below, length_formulas, height_below}
 use Rattle.constraint.specs.declared.Relation.{Relation}
 use Rattle.constraint.specs.declared.Record.{Record}
+use Rattle.constraint.specs.declared.records.Records.{Records}
 
 -- ---- what a record that is one says
 abbrev Right : ℕ → Record → Type 0
@@ -97,170 +99,7 @@ writable_more n m l (Record.Or k) h = h
 writable_more n m l (Record.ForAll v lo hi) h = h
 writable_more n m l (Record.Exists v lo hi) h = h
 
--- ---- records that passed
-module _ (nodes b : List ℕ) (n : ℕ) (starts : List ℕ) (p : Ready nodes b n starts) where
-  pub fewer : (m : ℕ) → m ≤ n → Ready nodes b m starts
-  fewer m h = record {
-    count = p.count;
-    valid = p.valid;
-    few = omega (arith, p.few);
-    there = omega (arith, p.there);
-    passed = λ k l. p.passed k (omega arith);
-    room = p.room;
-    begins = λ k l. p.begins k (omega arith);
-  }
-
-  module _ (k : ℕ) (l : k < n) where
-    pub levels_few : levels (constraint_at nodes b k) ≤ 16
-    unfolding constraint_at
-    levels_few = rw (levels_map (tree_at nodes) (formula_at b k)) (stands p.count b k (p.passed k l)).shallow
-
-    pub quantifiers_few : quantifiers (constraint_at nodes b k) ≤ 4
-    unfolding constraint_at
-    quantifiers_few = rw (quantifiers_map (tree_at nodes) (formula_at b k)) (stands p.count b k (p.passed k l)).few
-
--- what takes one takes formula k - 1
-some_before : (b : List ℕ) (n : ℕ) → 1 ≤ length (finished b n) → 0 < n
-unfolding finished
-some_before b zero h = absurd (omega arith)
-some_before b (suc n) h = omega arith
-
-one_taken : (b : List ℕ) (n : ℕ) → 0 < n → get_or (formulas_to b 1 n) 0 none ≡ formula_at b (n - 1)
-unfolding formulas_to
-one_taken b zero h = absurd (omega arith)
-one_taken b (suc n) h = ap (formula_at b) (omega arith)
-
--- ---- a recursion on record numbers: record k, by what it says
-module _ (nodes b : List ℕ) (k : ℕ) (starts : List ℕ) (p : Ready nodes b (k + 1) starts) where
-  here : Stands p.count b k
-  here = stands p.count b k (p.passed k (omega arith))
-
-  pub record_there : 24 * k + 24 ≤ length b
-  record_there = omega (arith, p.there)
-
-  -- its constraint, by its formula
-  mapped : {c : Formula ℕ} → formula_at b k ≡ c → constraint_at nodes b k ≡ map_formula (tree_at nodes) c
-  unfolding constraint_at
-  mapped e = ap (map_formula (tree_at nodes)) e
-
-  module _ (x : Record) (e : record_at b k ≡ x) where
-    over_count : Writable p.count x
-    over_count = subst (Writable p.count) e (writable p.count b k (omega (arith, p.few)) here)
-
-    pub writable_here : Writable 1024 x
-    writable_here = writable_more p.count 1024 p.valid.few x over_count
-
-    enough_here : takes x ≤ length (finished b k)
-    enough_here = subst (λ (y : Record). takes y ≤ length (finished b k)) e here.enough
-
-    pub formula_here : formula_at b k ≡ finish x (formulas_to b (takes x) k)
-    formula_here = formula_of b k here.enough ∙ ap (λ (y : Record). finish y (formulas_to b (takes y) k)) e
-
-    pub taken_here : (m : ℕ) → m ≡ takes x → Taken nodes b m k starts
-    taken_here m t = record { ready = fewer nodes b (k + 1) starts p k (omega arith); enough = omega (arith, enough_here) }
-
-  module _ (x : Record) (e : record_at b k ≡ x) (one : takes x ≡ 1) where
-    pub inside : (0 < k) × Ready nodes b (k - 1 + 1) starts
-    inside =
-        let h = some_before b k (omega (arith, enough_here x e)) in
-        (h, fewer nodes b (k + 1) starts p (k - 1 + 1) (omega arith))
-
-    inside_is : get_or (formulas_to b (takes x) k) 0 none ≡ formula_at b (k - 1)
-    inside_is = ap (λ (m : ℕ). get_or (formulas_to b m k) 0 none) one ∙ one_taken b k inside.0
-
-  module _ (rel : Relation) (i : ℕ) (e : record_at b k ≡ Record.Atom rel i) where
-    pub at_atom : constraint_at nodes b k ≡ Atom rel (tree_at nodes i)
-    unfolding map_formula finish
-    at_atom = mapped (formula_here (Record.Atom rel i) e)
-
-    pub atom_node : Valid nodes (i + 1)
-    atom_node = nodes-prefix nodes p.count p.valid (i + 1) (omega (arith, over_count (Record.Atom rel i) e))
-
-  pub formula_not : record_at b k ≡ Record.Not → formula_at b k ≡ Not (formula_at b (k - 1))
-  unfolding finish
-  formula_not e = formula_here Record.Not e ∙ ap Not (inside_is Record.Not e refl)
-
-  pub at_not : record_at b k ≡ Record.Not → constraint_at nodes b k ≡ Not (constraint_at nodes b (k - 1))
-  unfolding map_formula constraint_at
-  at_not e = mapped (formula_not e)
-
-  module _ (m : ℕ) (e : record_at b k ≡ Record.And m) where
-    pub at_and : constraint_at nodes b k ≡ And (gather (up_to nodes b m k))
-    unfolding map_formula up_to finish
-    at_and = mapped (formula_here (Record.And m) e) ∙ ap And (gather_map (tree_at nodes) (formulas_to b m k))
-
-    pub and_taken : Taken nodes b m k starts
-    and_taken = taken_here (Record.And m) e m refl
-
-  module _ (m : ℕ) (e : record_at b k ≡ Record.Or m) where
-    pub at_or : constraint_at nodes b k ≡ Or (gather (up_to nodes b m k))
-    unfolding map_formula up_to finish
-    at_or = mapped (formula_here (Record.Or m) e) ∙ ap Or (gather_map (tree_at nodes) (formulas_to b m k))
-
-    pub or_taken : Taken nodes b m k starts
-    or_taken = taken_here (Record.Or m) e m refl
-
-  module _ (v : ℕ) (lo hi : Float) (e : record_at b k ≡ Record.ForAll v lo hi) where
-    pub at_forall : constraint_at nodes b k ≡ ForAll v lo hi (constraint_at nodes b (k - 1))
-    unfolding map_formula constraint_at finish
-    at_forall = mapped (formula_here (Record.ForAll v lo hi) e ∙ ap (ForAll v lo hi) (inside_is (Record.ForAll v lo hi) e refl))
-
-  module _ (v : ℕ) (lo hi : Float) (e : record_at b k ≡ Record.Exists v lo hi) where
-    pub at_exists : constraint_at nodes b k ≡ Exists v lo hi (constraint_at nodes b (k - 1))
-    unfolding map_formula constraint_at finish
-    at_exists = mapped (formula_here (Record.Exists v lo hi) e ∙ ap (Exists v lo hi) (inside_is (Record.Exists v lo hi) e refl))
-
--- ---- those that a record takes: all but the last, and the last
-module _ (nodes b : List ℕ) (m n : ℕ) (starts : List ℕ) (q : Taken nodes b m n starts) where
-  pub few_taken : (m ≤ 256) × (length (formulas_to b m n) ≡ m)
-  few_taken = (omega (arith, q.enough, q.ready.few, height_below b n), length_formulas b m n q.enough)
-
-  pub no_formulas : m ≡ 0 → formulas_to b m n ≡ []
-  unfolding formulas_to
-  no_formulas e = ap (λ (i : ℕ). formulas_to b i n) e
-
-  pub none_taken : m ≡ 0 → up_to nodes b m n ≡ []
-  unfolding up_to
-  none_taken e = ap (map (map_formula (tree_at nodes))) (no_formulas e)
-
-  module _ (h : m ≡ 0 → ⊥) where
-    pub some : 0 < n
-    some = go n q.enough
-      where
-        go : (n : ℕ) → m ≤ length (finished b n) → 0 < n
-        go zero g = absurd (h (unfold finished in omega arith))
-        go (suc n) g = omega arith
-
-    -- at the first record of the last, as `starts` has it
-    module _ (s : ℕ) (e : s ≡ get_or starts (n - 1) 0) where
-      is_start : s ≡ start_at b (n - 1)
-      is_start = e ∙ q.ready.begins (n - 1) (omega (arith, some))
-
-      pub start_falls : s < n
-      start_falls = omega (arith, some, is_start, start_below b (n - 1))
-
-      pub before_last : Taken nodes b (m - 1) s starts
-      before_last =
-          let c : n ≡ suc (n - 1) = omega (arith, some) in
-          let k = ap (λ (i : ℕ). length (finished b i)) c ∙ ap length (chain b (n - 1)) ∙ length-append (finished b (start_at b (n - 1))) (formula_at b (n - 1) ∷ []) in
-          let r = ap (λ (i : ℕ). length (finished b i)) is_start in
-          record { ready = fewer nodes b n starts q.ready s (omega (arith, start_falls)); enough = omega (arith, q.enough) }
-
-      pub last : Ready nodes b (n - 1 + 1) starts
-      last = fewer nodes b n starts q.ready (n - 1 + 1) (omega (arith, some))
-
-      pub formulas_to_lem : formulas_to b m n ≡ formulas_to b (m - 1) s ++ formula_at b (n - 1) ∷ []
-      unfolding formulas_to
-      formulas_to_lem =
-          let a : m ≡ suc (m - 1) = omega arith in
-          let c : n ≡ suc (n - 1) = omega (arith, some) in
-          ap₂ (formulas_to b) a c ∙ ap (λ (i : ℕ). formulas_to b (m - 1) i ++ formula_at b (n - 1) ∷ []) (sym is_start)
-
-      pub up_to_lem : up_to nodes b m n ≡ up_to nodes b (m - 1) s ++ constraint_at nodes b (n - 1) ∷ []
-      unfolding up_to constraint_at
-      up_to_lem = ap (map (map_formula (tree_at nodes))) formulas_to_lem ∙ map-append (map_formula (tree_at nodes)) (formulas_to b (m - 1) s) (formula_at b (n - 1) ∷ [])
-
--- ---- from the tests to records that passed, and the formula that is left
+-- ---- from the tests to each record, and the formula that is left
 module _ (count : ℕ) (b : List ℕ) (n : ℕ) (e : records_refusal count b n ≡ 0) where
   tests : (first (record_refusal count b) n ≡ 0) × (length (finished b n) ≡ 1)
   unfolding records_refusal
@@ -285,16 +124,160 @@ module _ (count : ℕ) (b : List ℕ) (n : ℕ) (e : records_refusal count b n �
           let m : n ≡ suc n - 1 = omega arith in
           (omega arith, chain b n ∙ only (finished b (start_at b n)) (formula_at b n) (sym (ap length (chain b n)) ∙ h) ∙ ap (λ (i : ℕ). formula_at b i ∷ []) m)
 
-  pub ready : (nodes : List ℕ) → Valid nodes count → n ≤ 256 → 24 * n ≤ length b → (old starts : List ℕ) → length old ≡ 256 →
-      starts ≡ starts_of count b n old → Ready nodes b n starts
-  ready nodes v few there old starts l s =
-      let q = s ∙ ap (λ (j : ℕ). filled (start_at b) j old) (passing_all (record_refusal count b) n tests.0) in
-      record {
-        count = count;
-        valid = v;
-        few = few;
-        there = there;
-        passed = none_of_each (record_refusal count b) n tests.0;
-        room = ap length q ∙ length_filled (start_at b) old n ∙ l;
-        begins = λ k h. ap (λ (a : List ℕ). get_or a k 0) q ∙ filled_at (start_at b) old n k h (omega arith);
-      }
+-- what takes one takes formula k - 1
+some_before : (b : List ℕ) (n : ℕ) → 1 ≤ length (finished b n) → 0 < n
+unfolding finished
+some_before b zero h = absurd (omega arith)
+some_before b (suc n) h = omega arith
+
+one_taken : (b : List ℕ) (n : ℕ) → 0 < n → get_or (formulas_to b 1 n) 0 none ≡ formula_at b (n - 1)
+unfolding formulas_to
+one_taken b zero h = absurd (omega arith)
+one_taken b (suc n) h = ap (formula_at b) (omega arith)
+
+-- ---- records that passed
+module _ (r : Records) where
+  abbrev nodes : List ℕ
+  nodes = r.nodes.now
+
+  abbrev b : List ℕ
+  b = r.constraints.now
+
+  -- one constraint is left, and the last record finishes it
+  pub one_left : (0 < r.count) × (finished b r.count ≡ formula_at b (r.count - 1) ∷ [])
+  one_left = only_left (length nodes / 16) b r.count r.ready.accepted
+
+  -- record k, by what it says
+  module _ (k : ℕ) (l : k < r.count) where
+    here : Stands (length nodes / 16) b k
+    here = each_stands (length nodes / 16) b r.count r.ready.accepted k l
+
+    pub record_there : 24 * k + 24 ≤ length b
+    record_there = omega (arith, r.ready.there)
+
+    pub levels_few : levels (constraint_of r k) ≤ 16
+    unfolding constraint_at
+    levels_few = rw (levels_map (tree_at nodes) (formula_at b k)) here.shallow
+
+    pub quantifiers_few : quantifiers (constraint_of r k) ≤ 4
+    unfolding constraint_at
+    quantifiers_few = rw (quantifiers_map (tree_at nodes) (formula_at b k)) here.few
+
+    -- its constraint, by its formula
+    mapped : {c : Formula ℕ} → formula_at b k ≡ c → constraint_of r k ≡ map_formula (tree_at nodes) c
+    unfolding constraint_at
+    mapped e = ap (map_formula (tree_at nodes)) e
+
+    module _ (x : Record) (e : record_of r k ≡ x) where
+      over_count : Writable (length nodes / 16) x
+      over_count = subst (Writable (length nodes / 16)) e (writable (length nodes / 16) b k (omega (arith, r.ready.few)) here)
+
+      pub writable_here : Writable 1024 x
+      writable_here = writable_more (length nodes / 16) 1024 r.ready.valid.few x over_count
+
+      enough_here : takes x ≤ length (finished b k)
+      enough_here = subst (λ (y : Record). takes y ≤ length (finished b k)) e here.enough
+
+      pub formula_here : formula_at b k ≡ finish x (formulas_to b (takes x) k)
+      formula_here = formula_of b k here.enough ∙ ap (λ (y : Record). finish y (formulas_to b (takes y) k)) e
+
+      pub taken_here : (m : ℕ) → m ≡ takes x → Taken r m k
+      taken_here m t = record { within = omega arith; enough = omega (arith, enough_here) }
+
+    module _ (x : Record) (e : record_of r k ≡ x) (one : takes x ≡ 1) where
+      pub inside : (0 < k) × (k - 1 < r.count)
+      inside =
+          let h = some_before b k (omega (arith, enough_here x e)) in
+          (h, omega arith)
+
+      pub inside_is : get_or (formulas_to b (takes x) k) 0 none ≡ formula_at b (k - 1)
+      inside_is = ap (λ (m : ℕ). get_or (formulas_to b m k) 0 none) one ∙ one_taken b k inside.0
+
+    module _ (rel : Relation) (i : ℕ) (e : record_of r k ≡ Record.Atom rel i) where
+      pub at_atom : constraint_of r k ≡ Atom rel (tree_at nodes i)
+      unfolding map_formula finish
+      at_atom = mapped (formula_here (Record.Atom rel i) e)
+
+      pub atom_node : Valid nodes (i + 1)
+      atom_node = nodes-prefix nodes (length nodes / 16) r.ready.valid (i + 1) (omega (arith, over_count (Record.Atom rel i) e))
+
+    pub formula_not : record_of r k ≡ Record.Not → formula_at b k ≡ Not (formula_at b (k - 1))
+    unfolding finish
+    formula_not e = formula_here Record.Not e ∙ ap Not (inside_is Record.Not e refl)
+
+    pub at_not : record_of r k ≡ Record.Not → constraint_of r k ≡ Not (constraint_of r (k - 1))
+    unfolding map_formula constraint_at
+    at_not e = mapped (formula_not e)
+
+    module _ (m : ℕ) (e : record_of r k ≡ Record.And m) where
+      pub at_and : constraint_of r k ≡ And (constraints_before r m k)
+      unfolding map_formula up_to finish
+      at_and = mapped (formula_here (Record.And m) e) ∙ ap And (gather_map (tree_at nodes) (formulas_to b m k))
+
+      pub and_taken : Taken r m k
+      and_taken = taken_here (Record.And m) e m refl
+
+    module _ (m : ℕ) (e : record_of r k ≡ Record.Or m) where
+      pub at_or : constraint_of r k ≡ Or (constraints_before r m k)
+      unfolding map_formula up_to finish
+      at_or = mapped (formula_here (Record.Or m) e) ∙ ap Or (gather_map (tree_at nodes) (formulas_to b m k))
+
+      pub or_taken : Taken r m k
+      or_taken = taken_here (Record.Or m) e m refl
+
+    module _ (v : ℕ) (lo hi : Float) (e : record_of r k ≡ Record.ForAll v lo hi) where
+      pub at_forall : constraint_of r k ≡ ForAll v lo hi (constraint_of r (k - 1))
+      unfolding map_formula constraint_at finish
+      at_forall = mapped (formula_here (Record.ForAll v lo hi) e ∙ ap (ForAll v lo hi) (inside_is (Record.ForAll v lo hi) e refl))
+
+    module _ (v : ℕ) (lo hi : Float) (e : record_of r k ≡ Record.Exists v lo hi) where
+      pub at_exists : constraint_of r k ≡ Exists v lo hi (constraint_of r (k - 1))
+      unfolding map_formula constraint_at finish
+      at_exists = mapped (formula_here (Record.Exists v lo hi) e ∙ ap (Exists v lo hi) (inside_is (Record.Exists v lo hi) e refl))
+
+  -- ---- those that a record takes: all but the last, and the last
+  module _ (m n : ℕ) (q : Taken r m n) where
+    pub few_taken : (m ≤ 256) × (length (formulas_to b m n) ≡ m)
+    few_taken = (omega (arith, q.enough, q.within, r.ready.few, height_below b n), length_formulas b m n q.enough)
+
+    pub no_formulas : m ≡ 0 → formulas_to b m n ≡ []
+    unfolding formulas_to
+    no_formulas e = ap (λ (i : ℕ). formulas_to b i n) e
+
+    pub none_taken : m ≡ 0 → up_to nodes b m n ≡ []
+    unfolding up_to
+    none_taken e = ap (map (map_formula (tree_at nodes))) (no_formulas e)
+
+    module _ (h : m ≡ 0 → ⊥) where
+      pub some : 0 < n
+      some = go n q.enough
+        where
+          go : (n : ℕ) → m ≤ length (finished b n) → 0 < n
+          go zero g = absurd (h (unfold finished in omega arith))
+          go (suc n) g = omega arith
+
+      pub last : n - 1 < r.count
+      last = omega (arith, some, q.within)
+
+      -- at the first record of the last
+      module _ (s : ℕ) (is_start : s ≡ start_at b (n - 1)) where
+        pub start_falls : s < n
+        start_falls = omega (arith, some, is_start, start_below b (n - 1))
+
+        pub before_last : Taken r (m - 1) s
+        before_last =
+            let c : n ≡ suc (n - 1) = omega (arith, some) in
+            let k = ap (λ (i : ℕ). length (finished b i)) c ∙ ap length (chain b (n - 1)) ∙ length-append (finished b (start_at b (n - 1))) (formula_at b (n - 1) ∷ []) in
+            let r = ap (λ (i : ℕ). length (finished b i)) is_start in
+            record { within = omega (arith, start_falls, q.within); enough = omega (arith, q.enough) }
+
+        pub formulas_to_lem : formulas_to b m n ≡ formulas_to b (m - 1) s ++ formula_at b (n - 1) ∷ []
+        unfolding formulas_to
+        formulas_to_lem =
+            let a : m ≡ suc (m - 1) = omega arith in
+            let c : n ≡ suc (n - 1) = omega (arith, some) in
+            ap₂ (formulas_to b) a c ∙ ap (λ (i : ℕ). formulas_to b (m - 1) i ++ formula_at b (n - 1) ∷ []) (sym is_start)
+
+        pub up_to_lem : up_to nodes b m n ≡ up_to nodes b (m - 1) s ++ constraint_of r (n - 1) ∷ []
+        unfolding up_to constraint_at
+        up_to_lem = ap (map (map_formula (tree_at nodes))) formulas_to_lem ∙ map-append (map_formula (tree_at nodes)) (formulas_to b (m - 1) s) (formula_at b (n - 1) ∷ [])

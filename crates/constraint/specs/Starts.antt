@@ -1,9 +1,9 @@
--- Where each constraint starts, by which a recursion on record numbers finds those that a record takes; and records that passed.
-use Rattle.std.specs.Prelude.{ℕ, zero, suc, ◌*◌, ◌-◌, ◌≤◌, ◌<◌, ◌≡◌, List, [], ◌∷◌, ◌++◌, map, length, get_or, take, drop}
-use Rattle.record.specs.Refusal.{passing, filled}
+-- Where each constraint starts, by which a recursion on record numbers finds those that a record takes; and what is known of records that passed.
+use Rattle.std.specs.Prelude.{ℕ, zero, suc, ◌+◌, ◌*◌, ◌-◌, ◌/◌, ◌≤◌, ◌<◌, ◌≡◌, List, [], ◌∷◌, ◌++◌, map, length, get_or, take, drop}
+use Rattle.tree.specs.Tree.{size}
 use Rattle.tree.specs.Nodes.{tree_at, Valid}
 use Rattle.constraint.specs.Constraint.{Formula, Constraint, map_formula}
-use Rattle.constraint.specs.Records.{record_at, takes, finished, formula_at, record_refusal}
+use Rattle.constraint.specs.Records.{record_at, takes, formula_at, records_refusal}
 
 -- the first record of each constraint that is finished before record k: that of the oldest that it takes, or its own
 unfoldable pub begun : List ℕ → ℕ → List ℕ
@@ -19,10 +19,6 @@ start_at b k =
     let before = begun b k in
     get_or (drop (length before - takes (record_at b k)) before) 0 k
 
--- a list whose first places n tests over `count` nodes have filled: with the start of each record that comes before the first refused
-abbrev pub starts_of : ℕ → List ℕ → ℕ → List ℕ → List ℕ
-starts_of count b n old = filled (start_at b) (passing (record_refusal count b) n) old
-
 -- the last m formulas that are finished before record k, oldest first, by their starts
 unfoldable pub formulas_to : List ℕ → ℕ → ℕ → List (Formula ℕ)
 formulas_to b zero k = []
@@ -33,17 +29,15 @@ formulas_to b (suc m) (suc k) = formulas_to b m (start_at b k) ++ formula_at b k
 unfoldable pub up_to : List ℕ → List ℕ → ℕ → ℕ → List Constraint
 up_to nodes b m k = map (map_formula (tree_at nodes)) (formulas_to b m k)
 
--- the first n records passed, over nodes that did, and `starts` has the first record of each
+-- n records passed their tests, over nodes that did, and `starts` has the first record of each constraint
 pub record Ready (nodes b : List ℕ) (n : ℕ) (starts : List ℕ) : Type 0 where
-  pub count : ℕ
-  pub valid : Valid nodes count
+  pub valid : Valid nodes (length nodes / 16)
   pub few : n ≤ 256
   pub there : 24 * n ≤ length b
-  pub passed : (k : ℕ) → k < n → record_refusal count b k ≡ 0
+  pub accepted : records_refusal (length nodes / 16) b n ≡ 0
   pub room : length starts ≡ 256
   pub begins : (k : ℕ) → k < n → get_or starts k 0 ≡ start_at b k
 
--- m of the constraints that are finished before record n
-pub record Taken (nodes b : List ℕ) (m n : ℕ) (starts : List ℕ) : Type 0 where
-  pub ready : Ready nodes b n starts
-  pub enough : m ≤ length (finished b n)
+-- no tree of accepted nodes has a size above n
+abbrev pub NoLarger : List ℕ → ℕ → Type 0
+NoLarger nodes n = (i : ℕ) → Valid nodes (i + 1) → size (tree_at nodes i) ≤ n

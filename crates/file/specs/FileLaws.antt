@@ -1,23 +1,19 @@
 -- Laws of files that are laid out, and of files and records that are accepted: what a function that takes one cites. Assumes nothing.
-use Rattle.std.specs.Prelude.{ℕ, ◌+◌, ◌*◌, ◌-◌, ◌/◌, ◌%◌, ◌≤◌, ◌<◌, ◌≡◌, true, ◌&&◌, List, [], leb, eqb, length}
+use Rattle.std.specs.Prelude.{ℕ, ◌+◌, ◌*◌, ◌/◌, ◌%◌, ◌≤◌, ◌<◌, ◌≡◌, true, ◌&&◌, List, [], leb, eqb, length}
 use Rattle.std.proofs.Common.{sym, ◌∙◌, arith, length-take}
 use borrow.Author.Tests.{leb-true, eqb-true, le-leb}
 use Rattle.std.specs.Float.{binary64}
 use Rattle.std.proofs.Math.ListN.{length-drop}
 use Rattle.number.specs.Sound.{sound}
-use Rattle.number.specs.Notation.{when◌then◌else◌}
 use Rattle.record.specs.Bytes.{u32_at}
 use Rattle.record.specs.Refusal.{◌unless◌, first}
 use Rattle.record.specs.RefusalLaws.{is_refused, both, none_both, none_unless, none_of_each}
 use Rattle.tree.specs.Nodes.{nodes_refusal, nodes_fit, list_refusal, Valid}
 use Rattle.tree.specs.NodeLaws.{list_valid}
-use Rattle.tree.specs.Code.{Within}
-use Rattle.tree.specs.SizeLaws.{list_within}
 use Rattle.constraint.specs.Records.{records_refusal}
-use Rattle.constraint.specs.Starts.{starts_of, Ready}
-use Rattle.constraint.specs.RecordLaws.{only_left, ready}
+use Rattle.constraint.specs.RecordLaws.{only_left}
 use Rattle.file.specs.File.{node_count, constraint_count, bound_count, constraints_from, bounds_from, nodes_of, constraints_of, bounds_of, is_headed, is_laid_out, bound_at, bounds, bound_refusal, refusal, Read, Refused, Accepted, read_by, left, read_file, is_counted, given_refusal, read_given}
-use Rattle.file.specs.Code.{Laid, bodies_starts, file_starts, given_largest, given_starts}
+use Rattle.file.specs.Code.{Laid}
 
 -- ---- laid out
 pub headed_long : (file : List ℕ) → is_headed file ≡ true → 32 ≤ length file
@@ -119,28 +115,9 @@ module _ (file : List ℕ) (e : refusal file ≡ 0) where
   unfolding bound_refusal
   bound_sound k l = none_unless 5 _ (none_of_each (bound_refusal (bounds_of file)) (bound_count file) passed.4 k l)
 
-  starts_are : (old : List ℕ) → file_starts file old ≡ starts_of (node_count file) (constraints_of file) (constraint_count file) old
-  unfolding file_starts bodies_starts when◌then◌else◌
-  starts_are old = rw (passed.0, passed.1, passed.2)
-
-  pub file_ready : (old starts : List ℕ) → length old ≡ 256 → starts ≡ file_starts file old → Ready (nodes_of file) (constraints_of file) (constraint_count file) starts
-  file_ready old starts h s =
-      ready (node_count file) (constraints_of file) (constraint_count file) passed.3 (nodes_of file) file_valid is_laid.few_constraints
-      (omega (arith, length_constraints file is_laid)) old starts h (s ∙ starts_are old)
-
   pub read_is : read_file file ≡ Accepted (left (nodes_of file) (constraints_of file) (constraint_count file)) (bounds (bounds_of file) (bound_count file))
   unfolding read_file
   read_is = rw e
-
--- its last constraint, for a recursion that gets the bodies as `nodes_of`, `constraints_of`, `constraint_count` and `test_file` return them
-module _ (file : List ℕ) (e : refusal file ≡ 0) (nodes b : List ℕ) (n : ℕ) (en : nodes ≡ nodes_of file) (eb : b ≡ constraints_of file) (ec : n ≡ constraint_count file) where
-  pub last_ready : (old starts : List ℕ) → length old ≡ 256 → starts ≡ file_starts file old → Ready nodes b (n - 1 + 1) starts
-  last_ready old starts h s =
-      let m : n - 1 + 1 ≡ constraint_count file = omega (arith, some_constraint file e) in
-      rw (en, eb, m) (file_ready file e old starts h s)
-
-  pub last_is : read_file file ≡ Accepted (left nodes b n) (bounds (bounds_of file) (bound_count file))
-  last_is = rw (en, eb, ec) (read_is file e)
 
 -- ---- accepted records
 module _ (nodes b : List ℕ) (e : given_refusal nodes b ≡ 0) where
@@ -154,28 +131,8 @@ module _ (nodes b : List ℕ) (e : given_refusal nodes b ≡ 0) where
   pub given_valid : Valid nodes (length nodes / 16)
   given_valid = list_valid nodes (length nodes / 16) (list_is nodes (length nodes / 16) (given_fit nodes (counted nodes b passed_given.0).0) ∙ passed_given.1)
 
-  pub given_within : {m : ℕ} → m ≡ given_largest nodes b → Within nodes (length nodes / 16) m
-  unfolding given_largest when◌then◌else◌
-  given_within q =
-      list_within nodes (length nodes / 16) (list_is nodes (length nodes / 16) (given_fit nodes (counted nodes b passed_given.0).0) ∙ passed_given.1)
-      (q ∙ rw passed_given.0)
-
   pub some_given : 0 < length b / 24
   some_given = (only_left (length nodes / 16) b (length b / 24) passed_given.2).0
-
-  given_starts_lem : (old : List ℕ) → given_starts nodes b old ≡ starts_of (length nodes / 16) b (length b / 24) old
-  unfolding given_starts when◌then◌else◌
-  given_starts_lem old = rw (passed_given.0, passed_given.1)
-
-  pub given_ready : (old starts : List ℕ) → length old ≡ 256 → starts ≡ given_starts nodes b old → Ready nodes b (length b / 24) starts
-  given_ready old starts h s =
-      ready (length nodes / 16) b (length b / 24) passed_given.2 nodes given_valid (counted nodes b passed_given.0).1 (omega arith) old starts h (s ∙ given_starts_lem old)
-
-  -- its last record
-  pub last_given : (old starts : List ℕ) → length old ≡ 256 → starts ≡ given_starts nodes b old → Ready nodes b (length b / 24 - 1 + 1) starts
-  last_given old starts h s =
-      let m : length b / 24 - 1 + 1 ≡ length b / 24 = omega (arith, some_given) in
-      rw m (given_ready old starts h s)
 
   pub given_is : read_given nodes b ≡ Accepted (left nodes b (length b / 24)) []
   unfolding read_given

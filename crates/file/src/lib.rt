@@ -1,17 +1,30 @@
 // The house file (document 01, "The file"): its tests, and what an accepted file says.
 #![tactic(auto)]
 
-ghost use Rattle.std.specs.Prelude.{◌≡◌, ◌+◌, ◌*◌, ◌/◌, ◌≤◌, length};
-ghost use Rattle.record.specs.Refusal.{first};
-ghost use Rattle.interval.specs.Boxes.{boxes_of};
-ghost use Rattle.file.specs.File.{node_count, constraint_count, bound_count, nodes_of, constraints_of, bounds_of, is_headed, is_laid_out, bound_at, bounds, bound_refusal, refusal, read_file, given_refusal, read_given};
-ghost use Rattle.file.specs.Code.{Laid, bodies_refusal, bodies_starts, file_starts, given_largest, given_starts};
-ghost use Rattle.file.specs.Answer.{answered};
+ghost use Rattle.std.specs.Prelude.{◌≡◌, ◌+◌, ◌*◌, ◌/◌, ◌≤◌, [], length, IfOk};
+ghost use Rattle.record.specs.Refusal.{◌or_else◌, first};
+ghost use Rattle.record.specs.Refused.{refusal_of, numbered};
+ghost use Rattle.tree.specs.Nodes.{nodes_refusal};
+ghost use Rattle.interval.specs.Views.{intervals_of};
 ghost use Rattle.constraint.specs.Constraint.{num_vars};
-ghost use Rattle.record.specs.Views.{old, final};
+ghost use Rattle.constraint.specs.Records.{records_refusal};
+ghost use Rattle.constraint.specs.Views.{the_constraint};
+ghost use Rattle.file.specs.File.{node_count, constraint_count, bound_count, nodes_of, constraints_of, bounds_of, is_headed, is_laid_out, bound_at, bounds, bound_refusal, refusal, Accepted, read_file, given_refusal, read_given};
+ghost use Rattle.file.specs.Code.{Laid, Holds};
+ghost use Rattle.file.specs.Answer.{answered};
 
-use interval::{Boxes, Interval};
-use tree::Tested;
+use constraint::Records;
+use interval::{Domain, Interval};
+use record::Refusal;
+
+// What an accepted file says.
+#[derive(Drop)]
+pub struct Problem<'a> {
+    pub records: Records<'a>,
+    pub bounds: Domain,
+}
+
+// ---- the header
 
 fn is_headed(file: &[u8]) -> bool
     ensures { result ≡ is_headed file.now }
@@ -49,28 +62,28 @@ fn is_laid_out(file: &[u8]) -> bool
 
 // ---- the counts and the bodies of a file that is laid out
 
-pub fn node_count(file: &[u8]) -> usize
+fn node_count(file: &[u8]) -> usize
     requires { 32 ≤ length file.now }
     ensures { result ≡ node_count file.now }
 {
     record::read_u32(file, 12) as usize
 }
 
-pub fn constraint_count(file: &[u8]) -> usize
+fn constraint_count(file: &[u8]) -> usize
     requires { 32 ≤ length file.now }
     ensures { result ≡ constraint_count file.now }
 {
     record::read_u32(file, 20) as usize
 }
 
-pub fn bound_count(file: &[u8]) -> usize
+fn bound_count(file: &[u8]) -> usize
     requires { 32 ≤ length file.now }
     ensures { result ≡ bound_count file.now }
 {
     record::read_u32(file, 28) as usize
 }
 
-pub fn nodes_of(file: &[u8]) -> &[u8]
+fn nodes_of(file: &[u8]) -> &[u8]
     requires { Laid file.now }
     ensures { result.now ≡ nodes_of file.now }
 {
@@ -78,7 +91,7 @@ pub fn nodes_of(file: &[u8]) -> &[u8]
     &file[32..to]
 }
 
-pub fn constraints_of(file: &[u8]) -> &[u8]
+fn constraints_of(file: &[u8]) -> &[u8]
     requires { Laid file.now }
     ensures { result.now ≡ constraints_of file.now }
 {
@@ -87,7 +100,7 @@ pub fn constraints_of(file: &[u8]) -> &[u8]
     &file[from..to]
 }
 
-pub fn bounds_of(file: &[u8]) -> &[u8]
+fn bounds_of(file: &[u8]) -> &[u8]
     requires { Laid file.now }
     ensures { result.now ≡ bounds_of file.now }
 {
@@ -96,7 +109,7 @@ pub fn bounds_of(file: &[u8]) -> &[u8]
 }
 
 // Bound k, read with no test.
-pub fn bound_in(bounds: &[u8], k: usize) -> Interval
+fn bound_in(bounds: &[u8], k: usize) -> Interval
     requires { 16 * k + 16 ≤ length bounds.now }
     ensures { result ≡ bound_at bounds.now k }
 {
@@ -107,164 +120,85 @@ pub fn bound_in(bounds: &[u8], k: usize) -> Interval
     )
 }
 
-// The bounds of a file that is laid out, as boxes.
-pub fn file_bounds(file: &[u8]) -> Boxes
-    requires { Laid file.now }
-    ensures { (result.count ≡ bound_count file.now) × (boxes_of result ≡ bounds (bounds_of file.now) (bound_count file.now)) }
-{
-    let n = bound_count(file);
-    let bytes = bounds_of(file);
-    let mut out = Boxes {
-        lo: [0.0; 16],
-        hi: [0.0; 16],
-        count: n,
-    };
-    let mut i: usize = 0;
-    while i < n {
-        let v = bound_in(bytes, i);
-        out.lo[i] = v.lo;
-        out.hi[i] = v.hi;
-        i += 1;
-    }
-    out
-}
+// ---- the bodies
 
-// Each of n bounds: 6.
-fn test_bounds(bounds: &[u8], n: usize) -> u8
-    requires { 16 * n ≤ length bounds.now }
-    ensures { result ≡ first (bound_refusal bounds.now) n }
+// The tests of each of the bounds: 6; and the boxes that they are.
+fn read_bounds(bytes: &[u8]) -> Result<Domain, Refusal>
+    requires { length bytes.now / 16 ≤ 16 }
+    ensures refusal { refusal_of result ≡ first (bound_refusal bytes.now) (length bytes.now / 16) }
+    ensures value { IfOk result (λ d. intervals_of d ≡ bounds bytes.now (length bytes.now / 16)) }
 {
-    let mut k: usize = 0;
-    while k < n {
-        let b = bound_in(bounds, k);
-        if !number::is_sound(b.lo, b.hi) {
-            return 6;
+    let count = bytes.len() / 16;
+    let mut boxes = [Interval::point(0.0); 16];
+    for i in 0..count {
+        let b = bound_in(bytes, i);
+        if !b.is_sound() {
+            return Err(Refusal::Range);
         }
-        k += 1;
+        boxes[i] = b;
     }
-    0
+    Ok(Domain { boxes, count })
 }
 
-// ---- the tests of a file, and of records in its place
-
-fn test_bodies(file: &[u8], starts: &mut [usize; 256]) -> u8
-    requires { Laid file.now × (length starts.old ≡ 256) }
-    ensures value { result ≡ bodies_refusal file.now }
-    ensures starts_value { final starts ≡ bodies_starts file.now (old starts) }
+// The tests of nodes, 3, 4, and of the constraint records over them, 5, 6, 7.
+fn read_records<'a>(nodes: &'a [u8], constraints: &'a [u8]) -> Result<Records<'a>, Refusal>
+    requires { (length nodes.now / 16 ≤ 1024) × (length constraints.now / 24 ≤ 256) }
+    ensures refusal { refusal_of result ≡ (nodes_refusal nodes.now (length nodes.now / 16) or_else records_refusal (length nodes.now / 16) constraints.now (length constraints.now / 24)) }
+    ensures records { IfOk result (Holds nodes.now constraints.now) }
 {
-    let count = node_count(file);
-    let first = tree::test_list(nodes_of(file), count);
-    if first != 0 {
-        return first;
-    }
-    let n = constraint_count(file);
-    let second = constraint::test_records(constraints_of(file), n, count, starts);
-    if second != 0 {
-        return second;
-    }
-    test_bounds(bounds_of(file), bound_count(file))
+    let largest = tree::test_sizes(nodes, nodes.len() / 16)?;
+    Records::new(nodes, constraints, largest)
 }
 
-// The refusal of a file, or 0. `starts` gets the first record of each constraint that passes.
-pub fn test_file(file: &[u8], starts: &mut [usize; 256]) -> u8
-    requires { length starts.old ≡ 256 }
-    ensures value { result ≡ refusal file.now }
-    ensures starts_value { final starts ≡ file_starts file.now (old starts) }
+// ---- what other crates call
+
+pub fn read(file: &[u8]) -> Result<Problem<'_>, Refusal>
+    ensures refusal { refusal_of result ≡ refusal file.now }
+    ensures problem { IfOk result (λ p. read_file file.now ≡ Accepted (the_constraint p.records) (intervals_of p.bounds)) }
 {
     if !is_headed(file) {
-        return 1;
+        return Err(Refusal::Header);
     }
     if !is_laid_out(file) {
-        return 2;
+        return Err(Refusal::Counts);
     }
-    test_bodies(file, starts)
+    let records = read_records(nodes_of(file), constraints_of(file))?;
+    let bounds = read_bounds(bounds_of(file))?;
+    Ok(Problem { records, bounds })
 }
 
-// The same of node records and constraint records given without a file, and the largest size of a node's tree.
-pub fn test_sized(nodes: &[u8], constraints: &[u8], starts: &mut [usize; 256]) -> Tested
-    requires { length starts.old ≡ 256 }
-    ensures refusal_value { result.refusal ≡ given_refusal nodes.now constraints.now }
-    ensures starts_value { final starts ≡ given_starts nodes.now constraints.now (old starts) }
-    ensures largest_value { result.largest ≡ given_largest nodes.now constraints.now }
+// The same of node records and constraint records given without a file: as many as the bytes make.
+pub fn read_given<'a>(nodes: &'a [u8], constraints: &'a [u8]) -> Result<Records<'a>, Refusal>
+    ensures refusal { refusal_of result ≡ given_refusal nodes.now constraints.now }
+    ensures records { IfOk result (Holds nodes.now constraints.now) }
+    ensures constraint { IfOk result (λ r. read_given nodes.now constraints.now ≡ Accepted (the_constraint r) []) }
 {
     let x = nodes.len();
     let y = constraints.len();
-    let count = x / 16;
-    let n = y / 24;
-    if (x % 16 == 0) & (count <= 1024) & (y % 24 == 0) & (n <= 256) {
-        let t = tree::test_sizes(nodes, count);
-        if t.refusal != 0 {
-            return t;
-        }
-        let refusal = constraint::test_records(constraints, n, count, starts);
-        let largest = t.largest;
-        return Tested { refusal, largest };
+    if (x % 16 == 0) & (x / 16 <= 1024) & (y % 24 == 0) & (y / 24 <= 256) {
+        return read_records(nodes, constraints);
     }
-    Tested {
-        refusal: 2,
-        largest: 0,
-    }
-}
-
-// Its refusal only.
-pub fn test_given(nodes: &[u8], constraints: &[u8], starts: &mut [usize; 256]) -> u8
-    requires { length starts.old ≡ 256 }
-    ensures value { result ≡ given_refusal nodes.now constraints.now }
-    ensures starts_value { final starts ≡ given_starts nodes.now constraints.now (old starts) }
-{
-    let t = test_sized(nodes, constraints, starts);
-    t.refusal
-}
-
-// ---- what the exported calls call
-
-// The refusal of a file, or 0.
-pub fn read(file: &[u8]) -> u8
-    ensures { result ≡ refusal file.now }
-{
-    let mut starts = [0usize; 256];
-    test_file(file, &mut starts)
-}
-
-// The refusal of records, or 0.
-pub fn read_given(nodes: &[u8], constraints: &[u8]) -> u8
-    ensures { result ≡ given_refusal nodes.now constraints.now }
-{
-    let mut starts = [0usize; 256];
-    test_given(nodes, constraints, &mut starts)
-}
-
-// A number of an accepted file, or of accepted records; or their refusal.
-#[derive(Clone, Copy)]
-pub enum Answer {
-    Refused(u8),
-    Value(u64),
+    Err(Refusal::Counts)
 }
 
 // The number of variables of a file's constraint.
-pub fn num_vars(file: &[u8]) -> Answer
-    ensures { result ≡ answered num_vars (read_file file.now) }
+pub fn num_vars(file: &[u8]) -> Result<u64, Refusal>
+    ensures { numbered result ≡ answered num_vars (read_file file.now) }
 {
-    let mut starts = [0usize; 256];
-    let r = test_file(file, &mut starts);
-    if r != 0 {
-        return Answer::Refused(r);
-    }
-    let last = constraint_count(file) - 1;
-    let v = constraint::num_vars(nodes_of(file), constraints_of(file), &starts, last);
-    Answer::Value(v as u64)
+    let problem = read(file)?;
+    Ok(vars_of(&problem.records))
 }
 
 // The same of records.
-pub fn num_vars_given(nodes: &[u8], constraints: &[u8]) -> Answer
-    ensures { result ≡ answered num_vars (read_given nodes.now constraints.now) }
+pub fn num_vars_given(nodes: &[u8], constraints: &[u8]) -> Result<u64, Refusal>
+    ensures { numbered result ≡ answered num_vars (read_given nodes.now constraints.now) }
 {
-    let mut starts = [0usize; 256];
-    let r = test_given(nodes, constraints, &mut starts);
-    if r != 0 {
-        return Answer::Refused(r);
-    }
-    let last = constraints.len() / 24 - 1;
-    let v = constraint::num_vars(nodes, constraints, &starts, last);
-    Answer::Value(v as u64)
+    let records = read_given(nodes, constraints)?;
+    Ok(vars_of(&records))
+}
+
+fn vars_of(records: &Records) -> u64
+    ensures { result ≡ num_vars (the_constraint records.now) }
+{
+    records.num_vars(records.root()) as u64
 }

@@ -1,12 +1,11 @@
--- Two tests against the infinities say that a value is finite. Assumes nothing.
+-- The library's test for a finite value. Assumes nothing.
 use mathlib.Core.Path.{◌≡◌, refl}
-use mathlib.Core.Bool.{true, false, ◌&&◌}
-use lib.Ieee.{Float, nan, inf, fin, lt}
+use lib.Ieee.{Float, nan, inf, fin}
 use lib.Ieee.Scale.{finite}
+use Rattle.std.specs.Float.{float_is_finite}
 
-pub finite_tests : (x : Float) → (lt (inf true) x && lt x (inf false)) ≡ finite x
-unfolding lt
-finite_tests nan = refl
-finite_tests (inf true) = refl
-finite_tests (inf false) = refl
-finite_tests (fin s m e) = refl
+pub finite_test : (x : Float) → float_is_finite x ≡ finite x
+unfolding float_is_finite
+finite_test nan = refl
+finite_test (inf s) = refl
+finite_test (fin s m e) = refl

@@ -1,4 +1,6 @@
 -- Laws that several proofs cite.
 mod Floats
-mod Loops
 mod Points
+mod Loops
+mod BoxRead
+mod Exits

@@ -1,122 +1,84 @@
 -- The steps of the loops over boxes, over plain values. Assumes nothing.
-use Prim.Native.Nat.{ℕ, zero, suc, ◌+◌, ◌-◌, ◌<◌, ◌≤◌}
-use mathlib.Core.Path.{◌≡◌, refl, sym, ap, ◌∙◌}
-use mathlib.Core.Bool.{Bool, true, false, ◌&&◌, ◌||◌}
+use Prim.Native.Nat.{ℕ, zero, suc, ◌+◌, ◌<◌, ◌≤◌, min}
+use mathlib.Core.Path.{◌≡◌, refl, sym, ap, ap₂, ◌∙◌}
+use mathlib.Core.Bool.{Bool, true, false}
 use mathlib.Core.List.{List, [], ◌∷◌, ◌++◌}
-use native.Mathlib.Nat.{not-suc-le-zero, le_of_suc-le-suc}
+use native.Mathlib.Nat.{le_of_suc-le-suc}
 use native.Mathlib.Numerals.{add-one}
 use native.Mathlib.Omega.{arith}
-use lib.Ieee.{Float, nan, binary64}
+use lib.Ieee.{Float, nan}
 use lib.ListN.{length, get_or, set, take, drop, replicate, drop_of_length-le}
-use lib.Seq.{length-take-le, take-suc, take_all, drop-cons, set_at, append_snoc}
-use Rattle.number.specs.Sound.{sound}
-use Rattle.number.specs.Notation.{when◌then◌else◌, ◌≺◌, whole}
-use Rattle.interval.specs.Interval.{◌‥◌, is_empty, width, midpoint}
-use Rattle.interval.specs.Boxes.{intervals, missing, midpoints, all_below, widest_from, widest, padded, any_empty, all_sound}
-use Rattle.interval.specs.BoxLaws.{intervals_at, intervals_length, first_at, first_length, midpoints_length}
+use lib.Seq.{drop-cons, take_all, paste}
+use Rattle.std.proofs.lemmas.List.{take_more, take_more_set, get_or-map}
+use Rattle.std.proofs.lemmas.List.Edits.{paste_more}
+use Rattle.number.specs.Notation.{when◌then◌else◌, ◌≺◌}
+use Rattle.interval.specs.Interval.{width, midpoint}
+use Rattle.interval.specs.Boxes.{missing, starting, midpoints, widest_from, widest, padded}
+use Rattle.interval.specs.BoxLaws.{midpoints_length, padded_more}
 use Rattle.interval.specs.declared.Interval.{Interval}
 
-module _ (n i : ℕ) (lo hi : List Float) (p : length lo ≡ 16) (q : length hi ≡ 16) (h : n ≤ 16) where
-  -- box i is read
-  rest : i < n → drop i (intervals (take n lo) (take n hi)) ≡ (get_or lo i nan ‥ get_or hi i nan) ∷ drop (i + 1) (intervals (take n lo) (take n hi))
-  rest l =
-      drop-cons (intervals (take n lo) (take n hi)) i missing (omega (arith, first_length n lo hi (omega arith) (q ∙ sym p)))
-      ∙ rw (add-one i, ← first_at n lo hi i missing (omega arith) (q ∙ sym p) l)
+-- ---- a list that is filled from another
+module _ {A : Type 0} (s l : List A) (i : ℕ) (d : A) where
+  pub placed_more : i < length s → i < length l → take i l ≡ take i s → {v : A} → v ≡ get_or s i d → take (i + 1) (set l i v) ≡ take (i + 1) s
+  placed_more h k e {v} w = take_more_set l i v k ∙ ap (λ (t : List A). t ++ v ∷ []) e ∙ ap (λ (x : A). take i s ++ x ∷ []) w ∙ sym (take_more s i d h)
 
-  pub empty_here : {t : Bool} → i < n → any_empty (drop i (intervals (take n lo) (take n hi))) ≡ t → is_empty (get_or lo i nan ‥ get_or hi i nan) ≡ true → true ≡ t
-  unfolding any_empty
-  empty_here l e w = sym (ap any_empty (rest l) ∙ ap (λ (x : Bool). x || any_empty (drop (i + 1) (intervals (take n lo) (take n hi)))) w) ∙ e
+  pub placed_all : {n : ℕ} → i ≡ n → length s ≡ n → take i l ≡ take i s → take n l ≡ s
+  placed_all {n} h k e = ap (λ (m : ℕ). take m l) (sym h) ∙ e ∙ take_all i s (omega arith)
 
-  pub empty_later : {t : Bool} → i < n → any_empty (drop i (intervals (take n lo) (take n hi))) ≡ t → is_empty (get_or lo i nan ‥ get_or hi i nan) ≡ false
-      → any_empty (drop (i + 1) (intervals (take n lo) (take n hi))) ≡ t
-  unfolding any_empty
-  empty_later l e w = sym (ap any_empty (rest l) ∙ ap (λ (x : Bool). x || any_empty (drop (i + 1) (intervals (take n lo) (take n hi)))) w) ∙ e
+-- the first i of s stand in l, which was t
+module _ (t s l : List Float) (i : ℕ) where
+  pub pasted_more : l ≡ paste t 0 s i → i < length t → i < length s → {x : Float} → x ≡ get_or s i nan → set l i x ≡ paste t 0 s (i + 1)
+  pasted_more e h k {x} w =
+      let z : i ≡ 0 + i = omega arith in
+      ap₂ (λ (r : List Float) (y : Float). set r i y) e w ∙ ap (λ (m : ℕ). set (paste t 0 s i) m (get_or s i nan)) z ∙ paste_more t 0 s i nan (omega arith) k
 
-  pub empty_none : {t : Bool} → n ≤ i → any_empty (drop i (intervals (take n lo) (take n hi))) ≡ t → false ≡ t
-  unfolding any_empty
-  empty_none l e = sym (ap any_empty (drop_of_length-le (intervals (take n lo) (take n hi)) {i = i} (omega (arith, first_length n lo hi (omega arith) (q ∙ sym p))))) ∙ e
+-- ---- the starting boxes
+-- the first k bounds, k being as many as there are, before the missing ones
+pub started : (n m k : ℕ) (bounds : List Interval) → n ≤ m → k ≡ min n (length bounds) → take n (take k bounds ++ drop k (replicate m missing)) ≡ starting n bounds
+unfolding starting
+started zero m k bounds h e = refl
+started (suc n) zero k bounds h e = absurd (omega arith)
+started (suc n) (suc m) k [] h e =
+    let z : k ≡ 0 = omega arith in
+    rw z (ap (λ (r : List Interval). missing ∷ r) (started n m 0 [] (le_of_suc-le-suc h) (omega arith)))
+started (suc n) (suc m) zero (b ∷ bounds) h e = absurd (omega arith)
+started (suc n) (suc m) (suc k) (b ∷ bounds) h e = ap (λ (r : List Interval). b ∷ r) (started n m k bounds (le_of_suc-le-suc h) (omega arith))
 
--- ---- each box of two lists sound
-module _ (lo hi : List Float) (i : ℕ) (e : length hi ≡ length lo) {t : Bool} (inv : all_sound (drop i (intervals lo hi)) ≡ t) where
-  from : i < length lo → drop i (intervals lo hi) ≡ (get_or lo i nan ‥ get_or hi i nan) ∷ drop (i + 1) (intervals lo hi)
-  from l =
-      drop-cons (intervals lo hi) i missing (omega (arith, intervals_length lo hi e))
-      ∙ rw (add-one i, ← intervals_at lo hi i missing e l)
+-- ---- the midpoints
+module _ (b : List Interval) (i : ℕ) (values : List Float) where
+  pub midpoints_more : i < length b → length b ≤ 16 → values ≡ padded (take i (midpoints b)) → (d : Interval) {x : Float} → x ≡ midpoint (get_or b i d)
+      → set values i x ≡ padded (take (i + 1) (midpoints b))
+  unfolding midpoints
+  midpoints_more h few e d {x} w =
+      ap (λ (l : List Float). set l i x) e ∙ padded_more (midpoints b) i x (omega (arith, midpoints_length b)) (omega (arith, midpoints_length b))
+      (w ∙ sym (get_or-map midpoint b i d nan h))
 
-  module _ {v : Interval} (l : i < length lo) (w : v ≡ (get_or lo i nan ‥ get_or hi i nan)) where
-    pub unsound_here : sound binary64 v.lo v.hi ≡ false → false ≡ t
-    unfolding all_sound
-    unsound_here s = sym (ap all_sound (from l) ∙ ap (λ (x : Interval). sound binary64 x.lo x.hi && all_sound (drop (i + 1) (intervals lo hi))) (sym w) ∙ ap (λ (x : Bool). x && all_sound (drop (i + 1) (intervals lo hi))) s) ∙ inv
+  pub midpoints_done : length b ≤ i → values ≡ padded (take i (midpoints b)) → values ≡ padded (midpoints b)
+  midpoints_done h e = e ∙ ap padded (take_all i (midpoints b) (omega (arith, midpoints_length b)))
 
-    pub sound_here : sound binary64 v.lo v.hi ≡ true → all_sound (drop (i + 1) (intervals lo hi)) ≡ t
-    unfolding all_sound
-    sound_here s = sym (ap all_sound (from l) ∙ ap (λ (x : Interval). sound binary64 x.lo x.hi && all_sound (drop (i + 1) (intervals lo hi))) (sym w) ∙ ap (λ (x : Bool). x && all_sound (drop (i + 1) (intervals lo hi))) s) ∙ inv
-
-  pub all_sound_lem : length lo ≤ i → true ≡ t
-  unfolding all_sound
-  all_sound_lem l = sym (ap all_sound (drop_of_length-le (intervals lo hi) {i = i} (omega (arith, intervals_length lo hi e)))) ∙ inv
-
--- ---- midpoints
-midpoints_at : (b : List Interval) (i : ℕ) → i < length b → get_or (midpoints b) i nan ≡ midpoint (get_or b i missing)
-unfolding midpoints
-midpoints_at [] i h = absurd (not-suc-le-zero h)
-midpoints_at (x ∷ xs) zero h = refl
-midpoints_at (x ∷ xs) (suc i) h = midpoints_at xs i (le_of_suc-le-suc h)
-
-module _ (b : List Interval) (i : ℕ) (point : List Float) (few : length b ≤ 16) (so_far : point ≡ take i (midpoints b) ++ replicate (16 - i) (whole 0)) where
-  pub midpoints_next : (x : Float) → i < length b → x ≡ midpoint (get_or b i missing) → set point i x ≡ take (i + 1) (midpoints b) ++ replicate (16 - (i + 1)) (whole 0)
-  midpoints_next x h e =
-      let n = midpoints_length b in
-      let m : 16 - i ≡ suc (16 - (i + 1)) = omega arith in
-      let t : take (suc i) (midpoints b) ≡ take i (midpoints b) ++ x ∷ [] =
-      take-suc (midpoints b) i nan (omega arith) ∙ ap (λ (y : Float). take i (midpoints b) ++ y ∷ []) (midpoints_at b i h ∙ sym e) in
-      ap (λ (p : List Float). set p i x) (so_far ∙ ap (λ (k : ℕ). take i (midpoints b) ++ replicate k (whole 0)) m)
-      ∙ set_at (take i (midpoints b)) (whole 0) (replicate (16 - (i + 1)) (whole 0)) x i (length-take-le i (midpoints b) (omega arith))
-      ∙ sym (append_snoc (take i (midpoints b)) x (replicate (16 - (i + 1)) (whole 0)))
-      ∙ rw (add-one i, t)
-
-  pub midpoints_done : i ≡ length b → point ≡ padded (midpoints b)
-  unfolding padded
-  midpoints_done h = let n = midpoints_length b in so_far ∙ rw (take_all i (midpoints b) (omega arith), h ∙ sym n)
-
--- ---- the rest of the boxes
-module _ (b : List Interval) (i : ℕ) where
-  after : i < length b → drop i b ≡ get_or b i missing ∷ drop (i + 1) b
-  after h = rw (add-one i) (drop-cons b i missing h)
+-- ---- the widest of the boxes
+module _ (b : List Interval) (i : ℕ) (d : Interval) where
+  after : i < length b → drop i b ≡ get_or b i d ∷ drop (i + 1) b
+  after h = rw (add-one i) (drop-cons b i d h)
 
   none : length b ≤ i → drop i b ≡ []
   none h = drop_of_length-le b {i = i} h
 
-  module _ (ε : Float) {t : Bool} (inv : all_below ε (drop i b) ≡ t) where
-    below_by : {k : Bool} → i < length b → (width (get_or b i missing) ≺ ε) ≡ k → k && all_below ε (drop (i + 1) b) ≡ t
-    unfolding all_below
-    below_by h w = sym (ap (all_below ε) (after h) ∙ ap (λ (x : Bool). x && all_below ε (drop (i + 1) b)) w) ∙ inv
-
-    pub below_next : i < length b → (width (get_or b i missing) ≺ ε) ≡ true → all_below ε (drop (i + 1) b) ≡ t
-    below_next h w = below_by h w
-
-    pub below_not : i < length b → (width (get_or b i missing) ≺ ε) ≡ false → false ≡ t
-    below_not h w = below_by h w
-
-    pub below_done : length b ≤ i → true ≡ t
-    unfolding all_below
-    below_done h = sym (ap (all_below ε) (none h)) ∙ inv
-
   module _ (at : ℕ) (most : Float) {r : ℕ} (inv : widest_from at most i (drop i b) ≡ r) where
-    by_test : (k : Bool) → i < length b → (width (get_or b i missing) ≺ most) ≡ k
-        → widest_from (when k then at else i) (when k then most else width (get_or b i missing)) (i + 1) (drop (i + 1) b) ≡ r
+    by_test : (k : Bool) → i < length b → (width (get_or b i d) ≺ most) ≡ k
+        → widest_from (when k then at else i) (when k then most else width (get_or b i d)) (i + 1) (drop (i + 1) b) ≡ r
     unfolding widest_from
     by_test k h w =
         sym (ap (widest_from at most i) (after h)
-        ∙ ap (λ (t : Bool). widest_from (when t then at else i) (when t then most else width (get_or b i missing)) (suc i) (drop (i + 1) b)) w
-        ∙ ap (λ (n : ℕ). widest_from (when k then at else i) (when k then most else width (get_or b i missing)) n (drop (i + 1) b)) (sym (add-one i)))
+        ∙ ap (λ (t : Bool). widest_from (when t then at else i) (when t then most else width (get_or b i d)) (suc i) (drop (i + 1) b)) w
+        ∙ ap (λ (n : ℕ). widest_from (when k then at else i) (when k then most else width (get_or b i d)) n (drop (i + 1) b)) (sym (add-one i)))
         ∙ inv
 
-    pub widest_keep : i < length b → (width (get_or b i missing) ≺ most) ≡ true → widest_from at most (i + 1) (drop (i + 1) b) ≡ r
+    pub widest_keep : i < length b → (width (get_or b i d) ≺ most) ≡ true → widest_from at most (i + 1) (drop (i + 1) b) ≡ r
     unfolding when◌then◌else◌
     widest_keep h w = by_test true h w
 
-    pub widest_take : i < length b → (width (get_or b i missing) ≺ most) ≡ false → widest_from i (width (get_or b i missing)) (i + 1) (drop (i + 1) b) ≡ r
+    pub widest_take : i < length b → (width (get_or b i d) ≺ most) ≡ false → widest_from i (width (get_or b i d)) (i + 1) (drop (i + 1) b) ≡ r
     unfolding when◌then◌else◌
     widest_take h w = by_test false h w
 
@@ -124,7 +86,7 @@ module _ (b : List Interval) (i : ℕ) where
     unfolding widest_from
     widest_done h = sym (ap (widest_from at most i) (none h)) ∙ inv
 
-pub widest_start : (b : List Interval) → widest_from 0 (width (get_or b 0 missing)) 1 (drop 1 b) ≡ widest b
-unfolding widest widest_from
-widest_start [] = refl
-widest_start (x ∷ xs) = refl
+pub widest_start : (b : List Interval) (d : Interval) → 0 < length b → widest_from 0 (width (get_or b 0 d)) 1 (drop 1 b) ≡ widest b
+unfolding widest
+widest_start [] d h = absurd (omega arith)
+widest_start (x ∷ xs) d h = refl

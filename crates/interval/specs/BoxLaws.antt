@@ -1,14 +1,15 @@
 -- Laws of two lists of ends, and of the starting boxes. Assumes nothing.
-use Rattle.std.specs.Prelude.{ℕ, zero, suc, ◌<◌, ◌≤◌, ◌≡◌, refl, true, List, [], ◌∷◌, ◌++◌, leb, eqb, length, get_or, set, take, Float}
+use Rattle.std.specs.Prelude.{ℕ, zero, suc, ◌<◌, ◌≤◌, ◌≡◌, refl, true, ◌&&◌, List, [], ◌∷◌, ◌++◌, leb, eqb, length, get_or, set, take, drop, replicate, Float, ◌-◌, ◌+◌}
 use Rattle.std.proofs.Math.Path.{sym}
-use Rattle.std.proofs.Common.{ap, ◌∙◌, le_of_suc-le-suc, not-suc-le-zero, arith, length-take-le, get_or-take, take_at}
+use Rattle.std.proofs.Common.{ap, ◌∙◌, le_of_suc-le-suc, not-suc-le-zero, arith, take_at, length-append, length-set, length-take, length-take-le}
 use borrow.Author.Tests.{eqb-true, leb-true}
-use Rattle.std.proofs.Math.Seq.{take-set-lt}
+use Rattle.std.proofs.lemmas.List.{take_more, length-map, length-replicate, set-append_left, replicate-append-replicate, take-replicate, drop-replicate}
+use Rattle.std.proofs.Math.Seq.{take-set-lt, set_at, append_snoc}
 use Rattle.std.specs.Float.{nan}
+use Rattle.number.specs.Notation.{whole}
 use Rattle.interval.specs.Interval.{◌‥◌, midpoint}
 use Rattle.record.specs.RefusalLaws.{both}
-use Rattle.interval.specs.Boxes.{intervals, lows, highs, boxes_of, missing, starting, midpoints, padded, all_sound, are_paired, are_boxes}
-use Rattle.interval.specs.declared.Boxes.{Boxes}
+use Rattle.interval.specs.Boxes.{intervals, lows, highs, starting, midpoints, padded, all_sound, are_paired, are_boxes}
 use Rattle.interval.specs.declared.Interval.{Interval}
 
 pub intervals_at : (lo hi : List Float) (j : ℕ) (d : Interval) → length hi ≡ length lo → j < length lo → (get_or lo j nan ‥ get_or hi j nan) ≡ get_or (intervals lo hi) j d
@@ -38,13 +39,6 @@ intervals_set (x ∷ lo) [] (suc j) a b = refl
 intervals_set (x ∷ lo) (y ∷ hi) zero a b = refl
 intervals_set (x ∷ lo) (y ∷ hi) (suc j) a b = ap (λ (r : List Interval). (x ‥ y) ∷ r) (intervals_set lo hi j a b)
 
-pub intervals_take : (n : ℕ) (lo hi : List Float) → intervals (take n lo) (take n hi) ≡ take n (intervals lo hi)
-unfolding intervals
-intervals_take zero lo hi = refl
-intervals_take (suc n) [] hi = refl
-intervals_take (suc n) (a ∷ lo) [] = refl
-intervals_take (suc n) (a ∷ lo) (b ∷ hi) = ap (λ (r : List Interval). (a ‥ b) ∷ r) (intervals_take n lo hi)
-
 -- the ends of boxes, as boxes again
 pub of_ends : (is : List Interval) → intervals (lows is) (highs is) ≡ is
 unfolding intervals
@@ -52,22 +46,23 @@ of_ends [] = refl
 of_ends (i ∷ is) = ap (λ (r : List Interval). i ∷ r) (of_ends is)
 
 pub lows_length : (is : List Interval) → length (lows is) ≡ length is
-lows_length [] = refl
-lows_length (i ∷ is) = ap suc (lows_length is)
+lows_length is = length-map is _
 
 pub highs_length : (is : List Interval) → length (highs is) ≡ length is
-highs_length [] = refl
-highs_length (i ∷ is) = ap suc (highs_length is)
+highs_length is = length-map is _
 
 -- two lists that are paired, and those that are boxes
 module _ (lo hi : List Float) where
+  pub ends_paired : (eqb (length lo) (length hi) && leb (length lo) 16) ≡ true → (length hi ≡ length lo) × (length lo ≤ 16)
+  ends_paired e = let w = both (eqb (length lo) (length hi)) (leb (length lo) 16) e in (sym (eqb-true _ _ w.0), leb-true _ _ w.1)
+
   pub as_many : are_paired lo hi ≡ true → length hi ≡ length lo
   unfolding are_paired
-  as_many e = sym (eqb-true _ _ (both (eqb (length lo) (length hi)) (leb (length lo) 16) e).0)
+  as_many e = (ends_paired e).0
 
   pub few : are_paired lo hi ≡ true → length lo ≤ 16
   unfolding are_paired
-  few e = leb-true _ _ (both (eqb (length lo) (length hi)) (leb (length lo) 16) e).1
+  few e = (ends_paired e).1
 
   pub boxes_paired : are_boxes lo hi ≡ true → are_paired lo hi ≡ true
   unfolding are_boxes
@@ -77,57 +72,16 @@ module _ (lo hi : List Float) where
   unfolding are_boxes
   boxes_all_sound e = (both (are_paired lo hi) (all_sound (intervals lo hi)) e).1
 
--- the first n of each
-pub first_length : (n : ℕ) (lo hi : List Float) → n ≤ length lo → length hi ≡ length lo → length (intervals (take n lo) (take n hi)) ≡ n
-first_length n lo hi h e =
-    let l = length-take-le n lo h in
-    intervals_length (take n lo) (take n hi) (length-take-le n hi (omega arith) ∙ sym l) ∙ l
-
-pub first_at : (n : ℕ) (lo hi : List Float) (j : ℕ) (d : Interval) → n ≤ length lo → length hi ≡ length lo → j < n → (get_or lo j nan ‥ get_or hi j nan) ≡ get_or (intervals (take n lo) (take n hi)) j d
-first_at n lo hi j d h e l =
-    let x = length-take-le n lo h in
-    let y = length-take-le n hi (omega arith) in
-    rw (← get_or-take n lo j nan l, ← get_or-take n hi j nan l) (intervals_at (take n lo) (take n hi) j d (y ∙ sym x) (omega arith))
-
-pub first_set : (n : ℕ) (lo hi : List Float) (j : ℕ) (a b : Float) → j < n → intervals (take n (set lo j a)) (take n (set hi j b)) ≡ set (intervals (take n lo) (take n hi)) j (a ‥ b)
-first_set n lo hi j a b h = rw (take-set-lt n lo j a h, take-set-lt n hi j b h) (intervals_set (take n lo) (take n hi) j a b)
-
-pub starting_more : (n : ℕ) (bounds : List Interval) → starting (suc n) bounds ≡ starting n bounds ++ get_or bounds n missing ∷ []
-unfolding starting
-starting_more zero [] = refl
-starting_more zero (b ∷ bounds) = refl
-starting_more (suc n) [] = ap (λ (r : List Interval). missing ∷ r) (starting_more n [])
-starting_more (suc n) (b ∷ bounds) = ap (λ (r : List Interval). b ∷ r) (starting_more n bounds)
-
-pub starting_length : (n : ℕ) (bounds : List Interval) → length (starting n bounds) ≡ n
-unfolding starting
-starting_length zero bounds = refl
-starting_length (suc n) [] = ap suc (starting_length n [])
-starting_length (suc n) (b ∷ bounds) = ap suc (starting_length n bounds)
-
 -- as many as there are bounds
 pub starting_all : (bounds : List Interval) → starting (length bounds) bounds ≡ bounds
 unfolding starting
 starting_all [] = refl
 starting_all (b ∷ bounds) = ap (λ (r : List Interval). b ∷ r) (starting_all bounds)
 
-pub all_there : (lo hi : List Float) → are_paired lo hi ≡ true → {b : List Interval} → b ≡ starting (length lo) (intervals lo hi) → b ≡ intervals lo hi
-all_there lo hi e q = q ∙ ap (λ (n : ℕ). starting n (intervals lo hi)) (sym (intervals_length lo hi (as_many lo hi e))) ∙ starting_all (intervals lo hi)
-
--- ---- boxes by value
-pub boxes_length : (b : Boxes) → length b.lo ≡ 16 → length b.hi ≡ 16 → b.count ≤ 16 → length (boxes_of b) ≡ b.count
-unfolding boxes_of
-boxes_length b p q h = first_length b.count b.lo b.hi (omega arith) (q ∙ sym p)
-
-pub boxes_at : (b : Boxes) (j : ℕ) → length b.lo ≡ 16 → length b.hi ≡ 16 → b.count ≤ 16 → j < b.count → (get_or b.lo j nan ‥ get_or b.hi j nan) ≡ get_or (boxes_of b) j missing
-unfolding boxes_of
-boxes_at b j p q h l = first_at b.count b.lo b.hi j missing (omega arith) (q ∙ sym p) l
-
 -- ---- the midpoints
 pub midpoints_length : (b : List Interval) → length (midpoints b) ≡ length b
 unfolding midpoints
-midpoints_length [] = refl
-midpoints_length (i ∷ is) = ap suc (midpoints_length is)
+midpoints_length b = length-map b midpoint
 
 pub midpoints_set : (b : List Interval) (w : ℕ) (v : Interval) → midpoints (set b w v) ≡ set (midpoints b) w (midpoint v)
 unfolding midpoints
@@ -135,7 +89,57 @@ midpoints_set [] w v = refl
 midpoints_set (i ∷ is) zero v = refl
 midpoints_set (i ∷ is) (suc w) v = ap (λ (l : List Float). midpoint i ∷ l) (midpoints_set is w v)
 
--- the values of a padded point
+-- ---- the values of a padded point
 pub padded_take : (m : List Float) (n : ℕ) → length m ≡ n → take n (padded m) ≡ m
 unfolding padded
 padded_take m n e = take_at m _ n e
+
+pub padded_blank : (m : List Float) (n : ℕ) → length m ≡ n → padded m ≡ padded (take n (padded m))
+padded_blank m n e = ap padded (sym (padded_take m n e))
+
+pub padded_length : (m : List Float) → length m ≤ 16 → length (padded m) ≡ 16
+unfolding padded
+padded_length m h = omega (arith, length-append m (replicate (16 - length m) (whole 0)), length-replicate (16 - length m) (whole 0))
+
+pub padded_set : (m : List Float) (i : ℕ) (x : Float) → i < length m → set (padded m) i x ≡ padded (set m i x)
+unfolding padded
+padded_set m i x h = rw (length-set m i x) (set-append_left m _ i x h)
+
+pub padded_zeros : (n : ℕ) → n ≤ 16 → replicate 16 (whole 0) ≡ padded (replicate n (whole 0))
+unfolding padded
+padded_zeros n h =
+    let e : n + (16 - n) ≡ 16 = omega arith in
+    rw (length-replicate n (whole 0)) (sym (replicate-append-replicate n (16 - n) (whole 0) ∙ ap (λ (k : ℕ). replicate k (whole 0)) e))
+
+pub padded_more : (m : List Float) (i : ℕ) (x : Float) → i < length m → length m ≤ 16 → x ≡ get_or m i nan → set (padded (take i m)) i x ≡ padded (take (i + 1) m)
+unfolding padded
+padded_more m i x h few e =
+    let l = length-take-le i m (omega arith) in
+    let k : 16 - i ≡ suc (16 - (i + 1)) = omega arith in
+    rw (take_more m i nan h, ← e, length-append (take i m) (x ∷ []), l, k)
+    (set_at (take i m) (whole 0) (replicate (16 - (i + 1)) (whole 0)) x i l ∙ sym (append_snoc (take i m) x (replicate (16 - (i + 1)) (whole 0))))
+
+-- places with values in the first of them
+pub padded_places : (m : List Float) → m ++ drop (length m) (replicate 16 (whole 0)) ≡ padded m
+unfolding padded
+padded_places m = ap (λ (r : List Float). m ++ r) (drop-replicate (length m) 16 (whole 0))
+
+pub set_past : {A : Type 0} (l : List A) (i : ℕ) (a : A) → length l ≤ i → set l i a ≡ l
+set_past [] i a h = refl
+set_past (x ∷ xs) zero a h = absurd (omega arith)
+set_past {A} (x ∷ xs) (suc i) a h = ap (λ (r : List A). x ∷ r) (set_past xs i a (le_of_suc-le-suc h))
+
+-- the places of a point: those past its n values are 0
+pub zeros_blank : (n : ℕ) → n ≤ 16 → replicate 16 (whole 0) ≡ padded (take n (replicate 16 (whole 0)))
+zeros_blank n h = rw (take-replicate n 16 (whole 0) h) (padded_zeros n h)
+
+module _ (v : List Float) (n : ℕ) (few : n ≤ 16) (blank : v ≡ padded (take n v)) where
+  pub places_length : length v ≡ 16
+  places_length = ap length blank ∙ padded_length (take n v) (omega (arith, length-take n v))
+
+  pub values_length : length (take n v) ≡ n
+  values_length = length-take-le n v (omega (arith, places_length))
+
+  pub set_blank : (i : ℕ) (x : Float) → i < n → set v i x ≡ padded (take n (set v i x))
+  set_blank i x h =
+      ap (λ (l : List Float). set l i x) blank ∙ padded_set (take n v) i x (omega (arith, values_length)) ∙ ap padded (sym (take-set-lt n v i x h))

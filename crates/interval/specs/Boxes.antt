@@ -1,11 +1,11 @@
 -- Boxes: a list of intervals, one for each variable.
-use Rattle.std.specs.Prelude.{ℕ, zero, suc, ◌-◌, Bool, true, false, ◌&&◌, ◌||◌, List, [], ◌∷◌, ◌++◌, negsuc, leb, eqb, Float, length, take, replicate}
+use Rattle.std.specs.Prelude.{ℕ, zero, suc, ◌-◌, Bool, ◌&&◌, List, [], ◌∷◌, ◌++◌, negsuc, leb, eqb, Float, length, map, replicate}
+use Rattle.std.specs.List.{list_all, list_any}
 use Rattle.std.specs.Float.{binary64}
 use Rattle.number.specs.Sound.{sound}
 use Rattle.number.specs.Notation.{when◌then◌else◌, ◌≺◌, whole, integer}
 use Rattle.interval.specs.Interval.{◌‥◌, is_empty, width, midpoint}
 use Rattle.interval.specs.declared.Interval.{Interval}
-use Rattle.interval.specs.declared.Boxes.{Boxes}
 
 -- a variable beyond the list is [-10, 10]
 unfoldable pub missing : Interval
@@ -18,18 +18,15 @@ starting (suc n) [] = missing ∷ starting n []
 starting (suc n) (b ∷ bounds) = b ∷ starting n bounds
 
 unfoldable pub any_empty : List Interval → Bool
-any_empty [] = false
-any_empty (i ∷ is) = is_empty i || any_empty is
+any_empty b = list_any is_empty b
 
 -- ---- what halving asks of them
 unfoldable pub midpoints : List Interval → List Float
-midpoints [] = []
-midpoints (i ∷ is) = midpoint i ∷ midpoints is
+midpoints b = map midpoint b
 
 -- every interval is narrower than the tolerance
 unfoldable pub all_below : Float → List Interval → Bool
-all_below ε [] = true
-all_below ε (i ∷ is) = (width i ≺ ε) && all_below ε is
+all_below ε b = list_all (λ i. width i ≺ ε) b
 
 -- the number of the last widest interval, from number n on; i is the widest so far, and w its width
 unfoldable pub widest_from : ℕ → Float → ℕ → List Interval → ℕ
@@ -53,21 +50,14 @@ intervals (l ∷ ls) (h ∷ hs) = (l ‥ h) ∷ intervals ls hs
 
 -- and the two lists of boxes
 abbrev pub lows : List Interval → List Float
-lows [] = []
-lows (i ∷ is) = i.lo ∷ lows is
+lows b = map (λ i. i.lo) b
 
 abbrev pub highs : List Interval → List Float
-highs [] = []
-highs (i ∷ is) = i.hi ∷ highs is
-
--- the first `count` of each
-unfoldable pub boxes_of : Boxes → List Interval
-boxes_of b = intervals (take b.count b.lo) (take b.count b.hi)
+highs b = map (λ i. i.hi) b
 
 -- ---- the boxes that a call takes: over 16, or an unsound one, is document 01's 9. So is a box that lacks an end.
 unfoldable pub all_sound : List Interval → Bool
-all_sound [] = true
-all_sound (i ∷ is) = sound binary64 i.lo i.hi && all_sound is
+all_sound b = list_all (λ i. sound binary64 i.lo i.hi) b
 
 unfoldable pub are_paired : List Float → List Float → Bool
 are_paired lo hi = eqb (length lo) (length hi) && leb (length lo) 16

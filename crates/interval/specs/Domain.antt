@@ -1,5 +1,5 @@
 -- IntervalDomain (interval.rs), `new` and `is_empty`, on lists of ends that a caller gives: what is returned, and what is left in the lent places.
-use Rattle.std.specs.Prelude.{ℕ, Bool, ◌&&◌, List, leb, length, Float}
+use Rattle.std.specs.Prelude.{ℕ, Bool, ◌&&◌, List, leb, length, Float, Result, Ok, Err}
 use Rattle.std.proofs.Math.Seq.{paste}
 use Rattle.record.specs.Leaving.{Leaving, ◌leaving◌}
 use Rattle.record.specs.Refusal.{◌or_else◌, ◌unless◌, refused_or}
@@ -16,5 +16,5 @@ domain_new lo hi n a b =
     refused_or (domain_refusal lo hi n (length a) (length b)) (λ r. r leaving (a, b)) (0 leaving (paste a 0 (lows s) n, paste b 0 (highs s) n))
 
 -- whether any interval is empty, its ends being any f64. 9: not as many lo as hi, or over 16
-unfoldable pub domain_is_empty : List Float → List Float → Bool → Leaving ℕ Bool
-domain_is_empty lo hi old = refused_or (9 unless are_paired lo hi) (λ r. r leaving old) (0 leaving any_empty (intervals lo hi))
+unfoldable pub domain_is_empty : List Float → List Float → Result Bool ℕ
+domain_is_empty lo hi = refused_or (9 unless are_paired lo hi) Err (Ok (any_empty (intervals lo hi)))

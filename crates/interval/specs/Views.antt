@@ -1,12 +1,11 @@
--- What two lent lists of ends hold, as boxes: when a call begins, and when it returns.
-use Rattle.std.specs.Prelude.{List, Float}
-use Rattle.std.specs.Borrow.{MutBor}
-use denote.Triple.Both.{Both}
+-- What the code's own lists of at most 16 places hold: the first `count` of them.
+use Rattle.std.specs.Prelude.{List, take, Float}
 use Rattle.interval.specs.declared.Interval.{Interval}
-use Rattle.interval.specs.Boxes.{intervals}
+use Rattle.interval.specs.declared.domain.Domain.{Domain}
+use Rattle.interval.specs.declared.point.Point.{Point}
 
-abbrev pub before : {X Y : Type 0} → Both (MutBor (List Float)) X → Both (MutBor (List Float)) Y → List Interval
-before lo hi = intervals lo.entry.now hi.entry.now
+abbrev pub intervals_of : Domain → List Interval
+intervals_of d = take d.count d.boxes
 
-abbrev pub after : {X Y : Type 0} → Both X (MutBor (List Float)) → Both Y (MutBor (List Float)) → List Interval
-after lo hi = intervals lo.exit.now hi.exit.now
+abbrev pub values_of : Point → List Float
+values_of p = take p.count p.values

@@ -1,15 +1,18 @@
 // Intervals of two f64 (document 01, "Narrowing"), with the methods of interval.rs. They take any f64 and refuse nothing.
 #![tactic(auto)]
 
-ghost use Rattle.std.specs.Prelude.{◌≡◌, ◌<◌, ◌≤◌, ◌&&◌, leb, length, get_or};
-ghost use Rattle.std.specs.Float.Ieee.Scale.{finite};
+mod domain; // boxes: an interval for each variable
+mod ends; // boxes as two lists of ends, as C gives them
+mod point; // a value for each variable
+
+ghost use Rattle.std.specs.Prelude.{◌≡◌};
+ghost use Rattle.std.specs.Float.{binary64};
+ghost use Rattle.number.specs.Sound.{sound};
 ghost use Rattle.interval.specs.Interval.{◌‥◌, is_empty, width, midpoint, contains, split, intersect, hull, exp, has_ln, ln, plus, minus, moves};
-ghost use Rattle.interval.specs.Boxes.{intervals, boxes_of, lows, highs, missing, starting, midpoints, all_below, widest, padded, any_empty, all_sound, are_paired, are_boxes};
-ghost use Rattle.interval.specs.Domain.{domain_refusal, domain_new, domain_is_empty};
-ghost use Rattle.interval.specs.Views.{before};
-ghost use Rattle.record.specs.Leaving.{◌leaving◌};
-ghost use Rattle.record.specs.Views.{old, final};
-ghost use Rattle.std.proofs.Math.Seq.{paste};
+
+pub use domain::{Domain, all_sound, box_at};
+pub use ends::{domain_is_empty, domain_new};
+pub use point::Point;
 
 #[repr(C)]
 #[derive(Clone, Copy)]
@@ -23,12 +26,6 @@ pub struct Interval {
 pub struct Halves {
     pub lower: Interval,
     pub upper: Interval,
-}
-
-fn is_finite(x: f64) -> bool
-    ensures { result ≡ finite x }
-{
-    (-1.0 / 0.0 < x) & (x < 1.0 / 0.0)
 }
 
 impl Interval {
@@ -50,6 +47,14 @@ impl Interval {
         (self.hi < self.lo) | (self.lo != self.lo) | (self.hi != self.hi)
     }
 
+    // Whether a call takes it as a box.
+    pub fn is_sound(self) -> bool
+        ensures { result ≡ sound binary64 self.lo self.hi }
+    {
+        number::is_sound(self.lo, self.hi)
+    }
+
+    #[tactic(auto, unfolding(crate::specs::Interval::width))]
     pub fn width(self) -> f64
         ensures { result ≡ width self }
     {
@@ -62,12 +67,14 @@ impl Interval {
         (self.lo + self.hi) / 2.0
     }
 
+    #[tactic(auto, unfolding(crate::specs::Interval::contains))]
     pub fn contains(self, x: f64) -> bool
         ensures { result ≡ contains self x }
     {
         (x >= self.lo) & (x <= self.hi)
     }
 
+    #[tactic(auto, unfolding(crate::specs::Interval::split))]
     pub fn split(self) -> Halves
         ensures { result ≡ split self }
     {
@@ -78,6 +85,7 @@ impl Interval {
         }
     }
 
+    #[tactic(auto, unfolding(crate::specs::Interval::intersect))]
     pub fn intersect(self, other: Interval) -> Self
         ensures { result ≡ intersect self other }
     {
@@ -87,6 +95,7 @@ impl Interval {
         )
     }
 
+    #[tactic(auto, unfolding(crate::specs::Interval::hull))]
     pub fn hull(self, other: Interval) -> Self
         ensures { result ≡ hull self other }
     {
@@ -110,7 +119,7 @@ impl Interval {
     pub fn has_ln(self) -> bool
         ensures { result ≡ has_ln self }
     {
-        !((self.lo <= 0.0) | !is_finite(self.lo) | !is_finite(self.hi))
+        !((self.lo <= 0.0) | !self.lo.is_finite() | !self.hi.is_finite())
     }
 
     pub fn ln(self) -> Self
@@ -139,12 +148,14 @@ impl Interval {
         self.exp()
     }
 
+    #[tactic(auto, unfolding(crate::specs::Interval::plus))]
     pub fn plus(self, other: Interval) -> Self
         ensures { result ≡ plus self other }
     {
         Self::new(self.lo + other.lo, self.hi + other.hi)
     }
 
+    #[tactic(auto, unfolding(crate::specs::Interval::minus))]
     pub fn minus(self, other: Interval) -> Self
         ensures { result ≡ minus self other }
     {
@@ -152,228 +163,10 @@ impl Interval {
     }
 
     // Whether an end of `new` lies inside by over the slack.
+    #[tactic(auto, unfolding(crate::specs::Interval::moves))]
     pub fn moves(self, new: Interval, slack: f64) -> bool
         ensures { result ≡ moves slack self new }
     {
         (new.lo > self.lo + slack) | (new.hi < self.hi - slack)
     }
-}
-
-// ---- boxes: an interval for each variable, in two lists of ends
-
-// The box of variable i; one beyond the list is [-10, 10].
-pub fn box_at(lo: &[f64], hi: &[f64], i: usize) -> Interval
-    requires { length hi.now ≡ length lo.now }
-    ensures { result ≡ get_or (intervals lo.now hi.now) i missing }
-{
-    if i < lo.len() {
-        return Interval::new(lo[i], hi[i]);
-    }
-    Interval::new(-10.0, 10.0)
-}
-
-fn all_sound(lo: &[f64], hi: &[f64]) -> bool
-    requires { length hi.now ≡ length lo.now }
-    ensures { result ≡ all_sound (intervals lo.now hi.now) }
-{
-    let mut i: usize = 0;
-    while i < lo.len() {
-        let v = Interval::new(lo[i], hi[i]);
-        if number::is_sound(v.lo, v.hi) {
-            i += 1;
-        } else {
-            return false;
-        }
-    }
-    true
-}
-
-// Whether two lists have as many ends of each kind, at most 16.
-fn are_paired(lo: &[f64], hi: &[f64]) -> bool
-    ensures { result ≡ are_paired lo.now hi.now }
-{
-    (lo.len() == hi.len()) & (lo.len() <= 16)
-}
-
-// Whether a caller's two lists are boxes: paired, and each box sound.
-pub fn are_boxes(lo: &[f64], hi: &[f64]) -> bool
-    ensures { result ≡ are_boxes lo.now hi.now }
-{
-    if are_paired(lo, hi) {
-        return all_sound(lo, hi);
-    }
-    false
-}
-
-// Writes the first n of the bounds, a missing one being [-10, 10], to the first places of two lists.
-fn write_starting(lo: &[f64], hi: &[f64], n: usize, out_lo: &mut [f64], out_hi: &mut [f64])
-    requires { (length hi.now ≡ length lo.now) × (n ≤ length out_lo.old) × (n ≤ length out_hi.old) }
-    ensures out_lo_value { final out_lo ≡ paste (old out_lo) 0 (lows (starting n (intervals lo.now hi.now))) n }
-    ensures out_hi_value { final out_hi ≡ paste (old out_hi) 0 (highs (starting n (intervals lo.now hi.now))) n }
-{
-    let mut i: usize = 0;
-    while i < n {
-        let v = box_at(lo, hi, i);
-        out_lo[i] = v.lo;
-        out_hi[i] = v.hi;
-        i += 1;
-    }
-}
-
-// A list of at most 16 boxes by value (IntervalDomain of interval.rs): the first `count` ends of each kind.
-#[derive(Clone, Copy)]
-pub struct Boxes {
-    pub lo: [f64; 16],
-    pub hi: [f64; 16],
-    pub count: usize,
-}
-
-impl Boxes {
-    // The first n of the bounds, a missing one being [-10, 10].
-    pub fn new(lo: &[f64], hi: &[f64], n: usize) -> Boxes
-        requires { (length hi.now ≡ length lo.now) × (n ≤ 16) }
-        ensures { (result.count ≡ n) × (boxes_of result ≡ starting n (intervals lo.now hi.now)) }
-    {
-        let mut low = [0.0; 16];
-        let mut high = [0.0; 16];
-        write_starting(lo, hi, n, &mut low, &mut high);
-        Boxes {
-            lo: low,
-            hi: high,
-            count: n,
-        }
-    }
-
-    // The first n of these bounds.
-    pub fn starting(self, n: usize) -> Boxes
-        requires { (self.count ≤ 16) × (n ≤ 16) }
-        ensures { (result.count ≡ n) × (boxes_of result ≡ starting n (boxes_of self)) }
-    {
-        let count = self.count;
-        let lo = self.lo;
-        let hi = self.hi;
-        Self::new(&lo[..count], &hi[..count], n)
-    }
-
-    // The midpoint of each box.
-    pub fn midpoints(self) -> [f64; 16]
-        requires { self.count ≤ 16 }
-        ensures { (result ≡ padded (midpoints (boxes_of self))) × (length (midpoints (boxes_of self)) ≡ self.count) }
-    {
-        let mut point = [0.0; 16];
-        let n = self.count;
-        let mut i: usize = 0;
-        while i < n {
-            point[i] = Interval::new(self.lo[i], self.hi[i]).midpoint();
-            i += 1;
-        }
-        point
-    }
-
-    // Whether every box is narrower than the tolerance.
-    pub fn all_below(self, tolerance: f64) -> bool
-        requires { self.count ≤ 16 }
-        ensures { result ≡ all_below tolerance (boxes_of self) }
-    {
-        let n = self.count;
-        let mut i: usize = 0;
-        while i < n {
-            if Interval::new(self.lo[i], self.hi[i]).width() < tolerance {
-                i += 1;
-            } else {
-                return false;
-            }
-        }
-        true
-    }
-
-    // The number of the last widest box.
-    pub fn widest(self) -> usize
-        requires { (0 < self.count) × (self.count ≤ 16) }
-        ensures { (result < self.count) × (result ≡ widest (boxes_of self)) }
-    {
-        let n = self.count;
-        let mut at: usize = 0;
-        let mut most = Interval::new(self.lo[0], self.hi[0]).width();
-        let mut i: usize = 1;
-        while i < n {
-            let w = Interval::new(self.lo[i], self.hi[i]).width();
-            if w < most {
-                i += 1;
-            } else {
-                at = i;
-                most = w;
-                i += 1;
-            }
-        }
-        at
-    }
-
-    pub fn is_empty(self) -> bool
-        requires { self.count ≤ 16 }
-        ensures { result ≡ any_empty (boxes_of self) }
-    {
-        let n = self.count;
-        let mut i: usize = 0;
-        while i < n {
-            let v = Interval::new(self.lo[i], self.hi[i]);
-            if v.is_empty() {
-                return true;
-            }
-            i += 1;
-        }
-        false
-    }
-
-    // Whether they are boxes that a call takes: at most 16, and each box sound.
-    pub fn are_sound(self) -> bool
-        ensures { result ≡ (leb self.count 16 && all_sound (boxes_of self)) }
-    {
-        let count = self.count;
-        if 16 < count {
-            return false;
-        }
-        let lo = self.lo;
-        let hi = self.hi;
-        all_sound(&lo[..count], &hi[..count])
-    }
-}
-
-// ---- what the exported calls call
-
-fn domain_refusal(lo: &[f64], hi: &[f64], n: usize, room: usize, other: usize) -> u8
-    ensures { result ≡ domain_refusal lo.now hi.now n room other }
-{
-    let are = are_boxes(lo, hi);
-    if are & (n <= 16) {
-        if (n <= room) & (n <= other) {
-            return 0;
-        }
-        return 10;
-    }
-    9
-}
-
-// IntervalDomain::new. A refusal writes nothing.
-pub fn domain_new(lo: &[f64], hi: &[f64], n: usize, out_lo: &mut [f64], out_hi: &mut [f64]) -> u8
-    ensures { (result leaving (final out_lo, final out_hi)) ≡ domain_new lo.now hi.now n (old out_lo) (old out_hi) }
-{
-    let r = domain_refusal(lo, hi, n, out_lo.len(), out_hi.len());
-    if r != 0 {
-        return r;
-    }
-    write_starting(lo, hi, n, out_lo, out_hi);
-    0
-}
-
-// IntervalDomain::is_empty.
-pub fn domain_is_empty(lo: &[f64], hi: &[f64], out: &mut bool) -> u8
-    ensures { (result leaving final out) ≡ domain_is_empty lo.now hi.now (old out) }
-{
-    if are_paired(lo, hi) {
-        let boxes = Boxes::new(lo, hi, lo.len());
-        *out = boxes.is_empty();
-        return 0;
-    }
-    9
 }

@@ -1,5 +1,5 @@
 -- `Canonical::ln` and `Canonical::sub` (canonical.rs) on a list of nodes: their trees, the nodes that they append, and their refusals.
-use Rattle.std.specs.Prelude.{ℕ, ◌+◌, ◌*◌, Bool, ◌&&◌, List, [], ◌∷◌, ◌++◌, ltb, length}
+use Rattle.std.specs.Prelude.{ℕ, ◌+◌, ◌*◌, Bool, ◌&&◌, List, [], ◌∷◌, ◌++◌, ltb, length, Result, Ok, Err}
 use Rattle.std.proofs.lemmas.List.Edits.{sets}
 use Rattle.record.specs.Refusal.{◌or_else◌, ◌unless◌, refused_or}
 use Rattle.record.specs.Leaving.{Leaving, ◌leaving◌}
@@ -7,7 +7,6 @@ use Rattle.tree.specs.Tree.{Tree, is_small}
 use Rattle.tree.specs.Nodes.{nodes_fit, tree_at, list_refusal}
 use Rattle.tree.specs.Encoding.{nodes_bytes}
 use Rattle.tree.specs.declared.Node.{Node}
-use Rattle.tree.specs.declared.Appended.{Appended}
 
 -- ---- the Rust's trees
 abbrev pub ln_tree : Tree → Tree
@@ -40,11 +39,11 @@ sub_refusal b n x y = append_refusal b n (ltb x n && ltb y n) (sub_tree (tree_at
 
 -- ---- the answer, and the list at exit
 -- a refusal returns its number and alters nothing; else the number of the last node appended
-abbrev pub append : ℕ → List ℕ → ℕ → List Node → ℕ → Leaving Appended (List ℕ)
-append refusal b n ns last = refused_or refusal (λ r. Appended.Refused r leaving b) (Appended.At last leaving sets b (16 * n) (nodes_bytes ns))
+abbrev pub append : ℕ → List ℕ → ℕ → List Node → ℕ → Leaving (Result ℕ ℕ) (List ℕ)
+append refusal b n ns last = refused_or refusal (λ r. Err r leaving b) (Ok last leaving sets b (16 * n) (nodes_bytes ns))
 
-unfoldable pub ln : List ℕ → ℕ → ℕ → Leaving Appended (List ℕ)
+unfoldable pub ln : List ℕ → ℕ → ℕ → Leaving (Result ℕ ℕ) (List ℕ)
 ln b n x = append (ln_refusal b n x) b n (ln_nodes n x) (n + 3)
 
-unfoldable pub sub : List ℕ → ℕ → ℕ → ℕ → Leaving Appended (List ℕ)
+unfoldable pub sub : List ℕ → ℕ → ℕ → ℕ → Leaving (Result ℕ ℕ) (List ℕ)
 sub b n x y = append (sub_refusal b n x y) b n (sub_nodes n x y) (n + 6)

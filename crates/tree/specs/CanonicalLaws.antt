@@ -1,5 +1,5 @@
 -- What `ln` and `sub` append is the Rust's tree, on a list whose older trees stay. Assumes nothing.
-use Rattle.std.specs.Prelude.{ℕ, ◌+◌, ◌*◌, ◌≤◌, ◌<◌, ◌≡◌, refl, Bool, true, ◌&&◌, List, ltb, length, get_or}
+use Rattle.std.specs.Prelude.{ℕ, ◌+◌, ◌*◌, ◌≤◌, ◌<◌, ◌≡◌, refl, Bool, true, ◌&&◌, List, ltb, length, get_or, Ok, Err}
 use Rattle.std.proofs.Common.{sym, ap, ap₂, ◌∙◌, subst, subst₂, arith, ltb-true, le-leb}
 use borrow.Author.Count.{below_more}
 use Rattle.std.proofs.lemmas.List.Edits.{sets}
@@ -16,7 +16,6 @@ use Rattle.tree.specs.EncodingLaws.{written, Has, one_read, eml_read}
 use Rattle.tree.specs.declared.Node.{Node}
 use Rattle.tree.specs.NodeLaws.{fit_parts, list_valid, small_parts, tree_one, tree_eml}
 use Rattle.tree.specs.Canonical.{ln_tree, sub_tree, ln_nodes, sub_nodes, append_refusal, ln_refusal, sub_refusal, append, ln, sub}
-use Rattle.tree.specs.declared.Appended.{Appended}
 
 -- ---- what no refusal gives
 pub record Accepted (b : List ℕ) (n : ℕ) (t : Tree) (m : ℕ) : Type 0 where
@@ -145,20 +144,20 @@ module _ (b : List ℕ) (n x y : ℕ) (e : sub_refusal b n x y ≡ 0) where
       record { result = r.1; older = old; valid = subst (Valid c) (omega arith) r.0 }
 
 -- ---- the two calls, by their outcome
-pub refused_at : {A : Type 0} {x y : A} {r k : ℕ} → (Appended.Refused r leaving x) ≡ (Appended.At k leaving y) → ⊥
+pub refused_at : {A : Type 0} {x y : A} {r k : ℕ} → (Err r leaving x) ≡ (Ok k leaving y) → ⊥
 refused_at e = let z : ◌≡◌ {A = ℕ} 0 1 = cc (same_answer e) in omega arith
 
-appended : (r : ℕ) (b : List ℕ) (n : ℕ) (xs : List Node) (last k : ℕ) (c : List ℕ) → append r b n xs last ≡ (Appended.At k leaving c) →
+appended : (r : ℕ) (b : List ℕ) (n : ℕ) (xs : List Node) (last k : ℕ) (c : List ℕ) → append r b n xs last ≡ (Ok k leaving c) →
     (r ≡ 0) × (last ≡ k) × (sets b (16 * n) (nodes_bytes xs) ≡ c)
 appended r b n xs last k c e = let w = not_refused r _ _ (λ m. refused_at) e in (w.0, cc (same_answer w.1), same_places w.1)
 
-pub ln_appends : (b : List ℕ) (n x k : ℕ) (c : List ℕ) → ln b n x ≡ (Appended.At k leaving c) → Means b c n k (ln_tree (tree_at b x))
+pub ln_appends : (b : List ℕ) (n x k : ℕ) (c : List ℕ) → ln b n x ≡ (Ok k leaving c) → Means b c n k (ln_tree (tree_at b x))
 unfolding ln
 ln_appends b n x k c e =
     let w = appended (ln_refusal b n x) b n (ln_nodes n x) (n + 3) k c e in
     subst₂ (λ (k : ℕ) (c : List ℕ). Means b c n k (ln_tree (tree_at b x))) w.1 w.2 (ln_means b n x w.0)
 
-pub sub_appends : (b : List ℕ) (n x y k : ℕ) (c : List ℕ) → sub b n x y ≡ (Appended.At k leaving c) → Means b c n k (sub_tree (tree_at b x) (tree_at b y))
+pub sub_appends : (b : List ℕ) (n x y k : ℕ) (c : List ℕ) → sub b n x y ≡ (Ok k leaving c) → Means b c n k (sub_tree (tree_at b x) (tree_at b y))
 unfolding sub
 sub_appends b n x y k c e =
     let w = appended (sub_refusal b n x y) b n (sub_nodes n x y) (n + 6) k c e in

@@ -74,6 +74,9 @@ right b k e =
     let kind = u32_at b at in
     right_of k _ _ _ (eqb kind 0) (eqb kind 1) (eqb kind 2) (eqb kind 3) (eqb (u32_at b (at + 4)) 0) (eqb (u32_at b (at + 8)) 0) (eqb (u32_at b (at + 12)) 0) (subst T (sym e) tt)
 
+pub children : (b : List ℕ) (k i j : ℕ) → is_node b k ≡ true → node_at b k ≡ Node.Eml i j → (i < k) × (j < k)
+children b k i j is e = subst (Right k) e (right b k is)
+
 -- ---- a node that passed
 pub small_parts : (t : Tree) → is_small t ≡ true → (size t ≤ 4096) × (depth t ≤ 128)
 unfolding is_small
@@ -113,7 +116,7 @@ module _ (b : List ℕ) (n : ℕ) (v : Valid b n) where
     depth_small = (small_parts (tree_at b k) (passed b k (v.each k l)).1).1
 
     pub children_below : (i j : ℕ) → node_at b k ≡ Node.Eml i j → (i < k) × (j < k)
-    children_below i j e = subst (Right k) e (right b k is_node_lem)
+    children_below i j e = children b k i j is_node_lem e
 
     pub index_small : (i : ℕ) → node_at b k ≡ Node.Var i → i < 16
     index_small i e = subst (Right k) e (right b k is_node_lem)

@@ -1,21 +1,23 @@
 // Numbered nodes (document 01, "The file"): their records, the tests of a list of nodes, and what `Canonical` (canonical.rs) appends to one.
 #![tactic(auto)]
 
-ghost use Rattle.std.specs.Prelude.{◌≡◌, max, ◌+◌, ◌*◌, ◌≤◌, ◌<◌, ◌++◌, length, get_or};
+ghost use Rattle.std.specs.Prelude.{◌≡◌, true, min, max, ◌+◌, ◌*◌, ◌≤◌, ◌<◌, ◌++◌, length, IfOk, OnOk};
 ghost use Rattle.std.proofs.lemmas.List.Edits.{sets};
 ghost use Rattle.std.specs.Float.{binary64};
 ghost use Rattle.std.specs.Float.Ieee.{of_bits};
 ghost use Rattle.std.specs.Float.Ieee.Scale.{finite};
 ghost use Rattle.record.specs.Bytes.{u32_bytes};
-ghost use Rattle.record.specs.Refusal.{passing, filled};
+ghost use Rattle.record.specs.Refused.{refusal_of, numbered};
 ghost use Rattle.record.specs.Leaving.{◌leaving◌};
-ghost use Rattle.tree.specs.Tree.{tree_vars};
-ghost use Rattle.tree.specs.Nodes.{node_at, is_node, node_refusal, nodes_refusal, nodes_fit, list_refusal, Valid};
-ghost use Rattle.tree.specs.Code.{right_end, left_end, chosen, size_at, depth_at, size_by, depth_by, Known, KnownBoth, largest, list_largest, Measured, operands_refusal, result_refusal};
-ghost use Rattle.tree.specs.Canonical.{ln_nodes, sub_nodes, ln_refusal, sub_refusal, ln as ln_of, sub as sub_of};
+ghost use Rattle.tree.specs.Tree.{Tree, tree_vars};
+ghost use Rattle.tree.specs.Nodes.{node_at, is_node, nodes_fit, list_refusal, Valid};
+ghost use Rattle.tree.specs.Code.{right_end, left_end, chosen, IsExtent, small_extent, Small, Measured, Held, largest, operands_refusal, result_refusal};
+ghost use Rattle.tree.specs.Canonical.{ln_tree, sub_tree, ln_nodes, sub_nodes, ln_refusal, sub_refusal, ln as ln_of, sub as sub_of};
 ghost use Rattle.tree.specs.Encoding.{node_bytes, nodes_bytes};
 ghost use Rattle.tree.specs.Views.{the_tree};
 ghost use Rattle.record.specs.Views.{old, final};
+
+use record::Refusal;
 
 // What a node's record says: a constant, a variable's index, the numbers of two children.
 #[derive(Clone, Copy)]
@@ -101,130 +103,119 @@ pub fn node_in(nodes: &[u8], k: usize) -> Node
 
 // ---- the tests of a list
 
-// The expanded size and the depth of a node's tree.
+// The expanded size and the depth of a tree.
 #[derive(Clone, Copy)]
-struct Sized {
-    size: usize,
-    depth: usize,
+struct Extent {
+    size: u16,
+    depth: u8,
 }
 
-pub fn larger(x: usize, y: usize) -> usize
-    ensures { result ≡ max x y }
-{
-    if x < y {
-        return y;
-    }
-    x
-}
+// A tree with one node's.
+const ONE: Extent = Extent { size: 1, depth: 1 };
 
-fn measure_eml(l: usize, r: usize, size: &[u16], depth: &[u8]) -> Sized
-    requires { KnownBoth l r size.now depth.now }
-    ensures { (result.size ≡ 1 + get_or size.now l 0 + get_or size.now r 0) × (result.depth ≡ 1 + max (get_or depth.now l 0) (get_or depth.now r 0)) }
-{
-    Sized {
-        size: 1 + size[l] as usize + size[r] as usize,
-        depth: 1 + larger(depth[l] as usize, depth[r] as usize),
-    }
-}
+// What a place holds before its node is met.
+const NONE: Extent = Extent { size: 0, depth: 0 };
 
-// A node's, by those of the nodes before it.
-fn measure(node: Node, size: &[u16], depth: &[u8]) -> Sized
-    requires { Known node size.now depth.now }
-    ensures { (result.size ≡ size_by node size.now) × (result.depth ≡ depth_by node depth.now) }
-{
-    match node {
-        Node::Eml(l, r) => measure_eml(l, r, size, depth),
-        Node::One => Sized { size: 1, depth: 1 },
-        Node::Const(_) => Sized { size: 1, depth: 1 },
-        Node::Var(_) => Sized { size: 1, depth: 1 },
-    }
-}
-
-// The refusal of a list of nodes, or 0; and the size of the largest tree of those that pass.
-#[derive(Clone, Copy)]
-pub struct Tested {
-    pub refusal: u8,
-    pub largest: usize,
-}
-
-// Each of count nodes: 3, then 4. The sizes and depths of those that pass are left in the two lists.
-fn test_nodes(nodes: &[u8], count: usize, size: &mut [u16], depth: &mut [u8]) -> Tested
-    requires { (count ≤ 1024) × (16 * count ≤ length nodes.now) × (count ≤ length size.old) × (count ≤ length depth.old) }
-    ensures refusal_value { result.refusal ≡ nodes_refusal nodes.now count }
-    ensures size_value { final size ≡ filled (size_at nodes.now) (passing (node_refusal nodes.now) count) (old size) }
-    ensures depth_value { final depth ≡ filled (depth_at nodes.now) (passing (node_refusal nodes.now) count) (old depth) }
-    ensures largest_value { result.largest ≡ largest nodes.now (passing (node_refusal nodes.now) count) }
-{
-    let mut largest: usize = 0;
-    let mut k: usize = 0;
-    while k < count {
-        if !is_node(nodes, k) {
-            return Tested {
-                refusal: 3,
-                largest,
-            };
+impl Extent {
+    // An Eml's, by those of its children.
+    fn eml(self, right: Extent) -> Extent
+        requires { (self.size + right.size < 65535) × (self.depth < 255) × (right.depth < 255) }
+        ensures { (result.size ≡ 1 + self.size + right.size) × (result.depth ≡ 1 + max self.depth right.depth) }
+    {
+        Extent {
+            size: 1 + self.size + right.size,
+            depth: 1 + self.depth.max(right.depth),
         }
-        let m = measure(node_in(nodes, k), size, depth);
-        if 4096 < m.size {
-            return Tested {
-                refusal: 4,
-                largest,
-            };
-        }
-        if 128 < m.depth {
-            return Tested {
-                refusal: 4,
-                largest,
-            };
-        }
-        size[k] = m.size as u16;
-        depth[k] = m.depth as u8;
-        largest = larger(largest, m.size);
-        k += 1;
     }
-    Tested {
-        refusal: 0,
-        largest,
+
+    fn is_small(self) -> bool
+        ensures { result ≡ small_extent self }
+    {
+        self.size <= 4096 && self.depth <= 128
+    }
+
+    // Those of `ln_tree` and `sub_tree`.
+    fn ln(self) -> Extent
+        requires { Small self }
+        ensures extent { (t : Tree) → IsExtent t self → IsExtent (ln_tree t) result }
+        ensures fits { (result.size ≤ 4102) × (result.depth ≤ 131) }
+    {
+        ONE.eml(ONE.eml(self).eml(ONE))
+    }
+
+    fn sub(self, y: Extent) -> Extent
+        requires { Small self × Small y }
+        ensures { (t u : Tree) → IsExtent t self → IsExtent u y → IsExtent (sub_tree t u) result }
+    {
+        self.ln().eml(y.eml(ONE))
+    }
+}
+
+// Node k's, by those of the nodes before it.
+fn measure(nodes: &[u8], k: usize, extents: &[Extent]) -> Extent
+    requires { (16 * k + 16 ≤ length nodes.now) × (is_node nodes.now k ≡ true) × Held nodes.now k extents.now }
+    ensures { IsExtent (the_tree nodes k) result }
+{
+    match node_in(nodes, k) {
+        Node::Eml(l, r) => extents[l].eml(extents[r]),
+        Node::One => ONE,
+        Node::Const(_) => ONE,
+        Node::Var(_) => ONE,
     }
 }
 
 // Whether n nodes are a list that fits in len bytes.
+#[tactic(auto, unfolding(crate::specs::Nodes::nodes_fit))]
 fn nodes_fit(len: usize, n: usize) -> bool
     ensures { result ≡ nodes_fit len n }
 {
-    if 1024 < n {
-        return false;
-    }
-    16 * n <= len
+    n <= 1024 && 16 * n <= len
 }
 
-// A list of count nodes: 2, then each node 3, 4. A short array is quicker to clear.
-pub fn test_sizes(nodes: &[u8], count: usize) -> Tested
-    ensures refusal_value { result.refusal ≡ list_refusal nodes.now count }
-    ensures largest_value { result.largest ≡ list_largest nodes.now count }
+// A list of count nodes: 2, then each node 3, 4; and the size of the largest tree. The extents of a list that passes are left in `extents`.
+fn test_nodes(nodes: &[u8], count: usize, extents: &mut [Extent]) -> Result<usize, Refusal>
+    requires { min count 1024 ≤ length extents.old }
+    ensures refusal { refusal_of result ≡ list_refusal nodes.now count }
+    ensures held { OnOk result (Held nodes.now count (final extents)) }
+    ensures value { IfOk result (λ m. m ≡ largest nodes.now count) }
 {
     if !nodes_fit(nodes.len(), count) {
-        return Tested {
-            refusal: 2,
-            largest: 0,
-        };
+        return Err(Refusal::Counts);
     }
-    if count <= 64 {
-        let mut size = [0u16; 64];
-        let mut depth = [0u8; 64];
-        return test_nodes(nodes, count, &mut size, &mut depth);
+    let mut largest: u16 = 0;
+    for k in 0..count {
+        if !is_node(nodes, k) {
+            return Err(Refusal::Node);
+        }
+        let extent = measure(nodes, k, extents);
+        if !extent.is_small() {
+            return Err(Refusal::Size);
+        }
+        extents[k] = extent;
+        largest = largest.max(extent.size);
     }
-    let mut size = [0u16; 1024];
-    let mut depth = [0u8; 1024];
-    test_nodes(nodes, count, &mut size, &mut depth)
+    Ok(usize::from(largest))
 }
 
-// Its refusal only.
-pub fn test_list(nodes: &[u8], count: usize) -> u8
-    ensures { result ≡ list_refusal nodes.now count }
+fn test_within<const N: usize>(nodes: &[u8], count: usize) -> Result<usize, Refusal>
+    requires { (min count 1024 ≤ N) × (N ≤ 1024) }
+    ensures refusal { refusal_of result ≡ list_refusal nodes.now count }
+    ensures value { IfOk result (λ m. m ≡ largest nodes.now count) }
 {
-    let t = test_sizes(nodes, count);
-    t.refusal
+    let mut extents = [NONE; N];
+    test_nodes(nodes, count, &mut extents)
+}
+
+// The tests of a list, and the size of its largest tree. A short array is quicker to clear.
+pub fn test_sizes(nodes: &[u8], count: usize) -> Result<usize, Refusal>
+    ensures refusal { refusal_of result ≡ list_refusal nodes.now count }
+    ensures value { IfOk result (λ m. m ≡ largest nodes.now count) }
+{
+    if count <= 64 {
+        test_within::<64>(nodes, count)
+    } else {
+        test_within::<1024>(nodes, count)
+    }
 }
 
 // ---- a node's tree
@@ -241,120 +232,58 @@ pub fn num_vars(nodes: &[u8], k: usize) -> usize
         Node::Eml(l, r) => {
             let left = num_vars(nodes, l);
             let right = num_vars(nodes, r);
-            larger(left, right)
+            left.max(right)
         }
     }
 }
 
 // ---- Canonical, on a list of count nodes whose free places are the bytes after them
 
-// The number of the last node appended, or the refusal.
-#[derive(Clone, Copy)]
-pub enum Appended {
-    At(usize),
-    Refused(u8),
-}
-
-// The refusal so far, and, where there is none, what is known of x and y.
-#[derive(Clone, Copy)]
-struct Operands {
-    refusal: u8,
-    x: Sized,
-    y: Sized,
-}
-
-fn refused(refusal: u8) -> Operands
-    ensures { result.refusal ≡ refusal }
+// The list's own tests, then 3 unless x and y name nodes; and their extents.
+fn measure_operands(
+    nodes: &[u8],
+    count: usize,
+    x: usize,
+    y: usize,
+) -> Result<(Extent, Extent), Refusal>
+    ensures refusal { refusal_of result ≡ operands_refusal nodes.now count x y }
+    ensures value { IfOk result (λ o. Measured (the_tree nodes x) o.0 × Measured (the_tree nodes y) o.1) }
 {
-    let none = Sized { size: 0, depth: 0 };
-    Operands {
-        refusal,
-        x: none,
-        y: none,
+    let mut extents = [NONE; 1024];
+    test_nodes(nodes, count, &mut extents)?;
+    if count <= x || count <= y {
+        return Err(Refusal::Node);
     }
-}
-
-// The list's own tests, then 3 unless x and y name nodes.
-fn measure_operands(nodes: &[u8], count: usize, x: usize, y: usize) -> Operands
-    ensures refusal_value { result.refusal ≡ operands_refusal nodes.now count x y }
-    ensures measured { result.refusal ≡ 0 → Measured (the_tree nodes x) result.x × Measured (the_tree nodes y) result.y }
-{
-    if !nodes_fit(nodes.len(), count) {
-        return refused(2);
-    }
-    let mut size = [0u16; 1024];
-    let mut depth = [0u8; 1024];
-    let t = test_nodes(nodes, count, &mut size, &mut depth);
-    if t.refusal != 0 {
-        return refused(t.refusal);
-    }
-    if count <= x {
-        return refused(3);
-    }
-    if count <= y {
-        return refused(3);
-    }
-    let a = Sized {
-        size: size[x] as usize,
-        depth: depth[x] as usize,
-    };
-    let b = Sized {
-        size: size[y] as usize,
-        depth: depth[y] as usize,
-    };
-    Operands {
-        refusal: 0,
-        x: a,
-        y: b,
-    }
+    Ok((extents[x], extents[y]))
 }
 
 // 4 for the result, then 10 unless there is room for `more` nodes.
-fn result_refusal(len: usize, count: usize, more: usize, res: Sized) -> u8
+#[tactic(auto, unfolding(crate::specs::Code::result_refusal))]
+fn test_result(len: usize, count: usize, more: usize, extent: Extent) -> Result<(), Refusal>
     requires { (count ≤ 1024) × (more ≤ 1024) }
-    ensures { result ≡ result_refusal len count more res.size res.depth }
+    ensures { refusal_of result ≡ result_refusal len count more extent }
 {
-    if 4096 < res.size {
-        return 4;
+    if !extent.is_small() {
+        return Err(Refusal::Size);
     }
-    if 128 < res.depth {
-        return 4;
+    if !nodes_fit(len, count + more) {
+        return Err(Refusal::Room);
     }
-    if nodes_fit(len, count + more) {
-        return 0;
-    }
-    10
+    Ok(())
 }
 
-fn ln_refusal(nodes: &[u8], count: usize, x: usize) -> u8
-    ensures { result ≡ ln_refusal nodes.now count x }
+fn test_ln(nodes: &[u8], count: usize, x: usize) -> Result<(), Refusal>
+    ensures { refusal_of result ≡ ln_refusal nodes.now count x }
 {
-    let o = measure_operands(nodes, count, x, x);
-    if o.refusal != 0 {
-        return o.refusal;
-    }
-    let a = o.x;
-    let result = Sized {
-        size: 6 + a.size,
-        depth: 3 + a.depth,
-    };
-    result_refusal(nodes.len(), count, 4, result)
+    let (a, _) = measure_operands(nodes, count, x, x)?;
+    test_result(nodes.len(), count, 4, a.ln())
 }
 
-pub fn sub_refusal(nodes: &[u8], count: usize, x: usize, y: usize) -> u8
-    ensures { result ≡ sub_refusal nodes.now count x y }
+pub fn test_sub(nodes: &[u8], count: usize, x: usize, y: usize) -> Result<(), Refusal>
+    ensures { refusal_of result ≡ sub_refusal nodes.now count x y }
 {
-    let o = measure_operands(nodes, count, x, y);
-    if o.refusal != 0 {
-        return o.refusal;
-    }
-    let a = o.x;
-    let b = o.y;
-    let result = Sized {
-        size: 9 + a.size + b.size,
-        depth: larger(4 + a.depth, 2 + b.depth),
-    };
-    result_refusal(nodes.len(), count, 7, result)
+    let (a, b) = measure_operands(nodes, count, x, y)?;
+    test_result(nodes.len(), count, 7, a.sub(b))
 }
 
 fn write_record(nodes: &mut [u8], k: usize, kind: u32, left: u32, right: u32)
@@ -407,26 +336,20 @@ pub struct Canonical;
 
 impl Canonical {
     // ln x: appends One, inner, middle, outer.
-    pub fn ln(nodes: &mut [u8], count: usize, x: usize) -> Appended
-        ensures { (result leaving final nodes) ≡ ln_of (old nodes) count x }
+    pub fn ln(nodes: &mut [u8], count: usize, x: usize) -> Result<usize, Refusal>
+        ensures { (numbered result leaving final nodes) ≡ ln_of (old nodes) count x }
     {
-        let r = ln_refusal(nodes, count, x);
-        if r != 0 {
-            return Appended::Refused(r);
-        }
+        test_ln(nodes, count, x)?;
         write_ln(nodes, count, x);
-        Appended::At(count + 3)
+        Ok(count + 3)
     }
 
     // x - y: appends One, the four of ln x, exp_y, result.
-    pub fn sub(nodes: &mut [u8], count: usize, x: usize, y: usize) -> Appended
-        ensures { (result leaving final nodes) ≡ sub_of (old nodes) count x y }
+    pub fn sub(nodes: &mut [u8], count: usize, x: usize, y: usize) -> Result<usize, Refusal>
+        ensures { (numbered result leaving final nodes) ≡ sub_of (old nodes) count x y }
     {
-        let r = sub_refusal(nodes, count, x, y);
-        if r != 0 {
-            return Appended::Refused(r);
-        }
+        test_sub(nodes, count, x, y)?;
         write_sub(nodes, count, x, y);
-        Appended::At(count + 6)
+        Ok(count + 6)
     }
 }

@@ -1,19 +1,20 @@
 -- `constraint::is_record` meets its contract: each arm is the definition's test of that kind. Assumes nothing.
 use mathlib.Core.Path.{sym, ◌∙◌}
+use native.Mathlib.Omega.{arith}
 use borrow.Author.Tests.{lt-ltb, le-ltb, ne_eqb}
 use Rattle.constraint.specs.Records.{is_record}
 use Rattle.number.specs.Notation.{when◌then◌else◌}
 use Rattle.constraint.proofs.is_record.Goals as goal
 
-pub returns-then-kind-lt6 : goal.returns-then-kind-lt6
-unfolding is_record when◌then◌else◌
-returns-then-kind-lt6 c =
-    simp (sym c.read_u32-kind.ensures, lt-ltb _ _ c.if-kind-lt6.true, c.read_u32-arg.ensures, c.read_u64-lo.ensures, c.read_u64-hi.ensures)
-
 pub returns-in-6 : goal.returns-in-6
 unfolding is_record when◌then◌else◌
 returns-in-6 c =
     simp (sym c.read_u32-kind.ensures ∙ c.in-6.is, c.read_u32-arg.ensures, c.read_u64-lo.ensures, c.read_u64-hi.ensures)
+
+pub returns-in-0-to-5 : goal.returns-in-0-to-5
+unfolding is_record when◌then◌else◌
+returns-in-0-to-5 c =
+    simp (sym c.read_u32-kind.ensures, lt-ltb c.read_u32-kind.result 6 (omega arith), c.read_u32-arg.ensures, c.read_u64-lo.ensures, c.read_u64-hi.ensures)
 
 pub returns-in-7 : goal.returns-in-7
 unfolding is_record when◌then◌else◌
@@ -38,5 +39,13 @@ returns-in-10 c =
 pub returns-in_default : goal.returns-in_default
 unfolding is_record when◌then◌else◌
 returns-in_default c =
-    let r = c.in_default.in_default-own.rest in
-    simp (sym c.read_u32-kind.ensures, le-ltb _ _ c.if-kind-lt6.false, ne_eqb _ _ r.1, ne_eqb _ _ r.0.1, ne_eqb _ _ r.0.0.1, ne_eqb _ _ r.0.0.0.1, ne_eqb _ _ r.0.0.0.0.1)
+    let k = c.read_u32-kind.result in
+    simp (
+      sym c.read_u32-kind.ensures,
+      le-ltb k 6 (omega arith),
+      ne_eqb k 6 (λ e. omega arith),
+      ne_eqb k 7 (λ e. omega arith),
+      ne_eqb k 8 (λ e. omega arith),
+      ne_eqb k 9 (λ e. omega arith),
+      ne_eqb k 10 (λ e. omega arith),
+    )

@@ -1,14 +1,17 @@
 -- `constraint::record_in` meets its contract: each arm is the definition's case of that kind. Assumes nothing.
 use mathlib.Core.Path.{sym, ◌∙◌}
-use borrow.Author.Tests.{lt-ltb, le-ltb, ne_eqb}
+use native.Mathlib.Omega.{arith}
+use borrow.Author.Tests.{ne_eqb}
 use Rattle.constraint.specs.Records.{record_at}
 use Rattle.number.specs.Notation.{when◌then◌else◌}
+use Rattle.constraint.proofs.Read.{relation_is, relation_none}
 use Rattle.constraint.proofs.record_in.Goals as goal
 
-pub returns-then-kind-lt6 : goal.returns-then-kind-lt6
+pub returns-in-Ok : goal.returns-in-Ok
 unfolding record_at when◌then◌else◌
-returns-then-kind-lt6 c =
-    simp (sym c.read_u32-kind.ensures, lt-ltb _ _ c.if-kind-lt6.true, c.relation_of.ensures, c.read_u32-arg.ensures)
+returns-in-Ok c =
+    let r = relation_is c.read_u32-kind.result c.in-Ok.relation (sym c.try_from.ensures ∙ c.in-Ok.is) in
+    simp (sym c.read_u32-kind.ensures, r.0, r.1, c.read_u32-arg.ensures)
 
 pub returns-in-6 : goal.returns-in-6
 unfolding record_at when◌then◌else◌
@@ -27,8 +30,18 @@ unfolding record_at when◌then◌else◌
 returns-in-9 c =
     simp (sym c.read_u32-kind.ensures ∙ c.in-9.is, c.read_u32-arg.ensures, c.read_f64.ensures, c.read_f64-in-9.ensures)
 
-pub returns-in_default : goal.returns-in_default
+pub returns-in_default-kind : goal.returns-in_default-kind
 unfolding record_at when◌then◌else◌
-returns-in_default c =
-    let r = c.in_default.in_default-own.rest in
-    simp (sym c.read_u32-kind.ensures, le-ltb _ _ c.if-kind-lt6.false, ne_eqb _ _ r.1, ne_eqb _ _ r.0.1, ne_eqb _ _ r.0.0.1, ne_eqb _ _ r.0.0.0.1, c.read_u32-arg.ensures, c.read_f64-in_default.ensures, c.read_f64-in_default-2.ensures)
+returns-in_default-kind c =
+    let k = c.read_u32-kind.result in
+    simp (
+      sym c.read_u32-kind.ensures,
+      relation_none k _ (sym c.try_from.ensures ∙ c.in_default.is),
+      ne_eqb k 6 (λ e. omega arith),
+      ne_eqb k 7 (λ e. omega arith),
+      ne_eqb k 8 (λ e. omega arith),
+      ne_eqb k 9 (λ e. omega arith),
+      c.read_u32-arg.ensures,
+      c.read_f64-in_default-kind.ensures,
+      c.read_f64-in_default-kind-2.ensures,
+    )

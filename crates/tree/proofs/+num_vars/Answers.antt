@@ -37,6 +37,6 @@ returns-in-Var t c = add-one _ ∙ sym (ap tree_vars (tree_var _ _ _ (sym c.node
 pub returns-in-Eml : goal.returns-in-Eml
 unfolding tree_vars
 returns-in-Eml t c =
-    c.larger.ensures
+    c.max.ensures
     ∙ ap₂ max c.num_vars-left.ensures c.num_vars-right.ensures
     ∙ sym (ap tree_vars (tree_is _ _ c.requires _ _ (sym c.node_in.ensures ∙ c.in-Eml.is)))

@@ -1,12 +1,14 @@
--- What each turn of the loop keeps, and what falls.
-use Prim.Native.Nat.{◌≤◌, ◌-◌}
-use mathlib.Core.Path.{◌≡◌}
-use lib.ListN.{length}
-use Rattle.tree.proofs.Nodes.{Passed}
+-- What each turn of the loop keeps.
+use Rattle.std.proofs.Common.{◌≡◌, ◌*◌, ◌≤◌, length}
+use Rattle.record.specs.Refusal.{first}
+use Rattle.tree.specs.Nodes.{node_refusal}
+use Rattle.tree.specs.Code.{Held, largest}
 use Rattle.tree.proofs.test_nodes.Given as goal
 
 abbrev pub invariant-loop-k : goal.invariant-loop-k
-invariant-loop-k l = (l.k ≤ l.count) × Passed l.nodes l.k l.initial.size l.initial.depth l.size l.depth l.largest × (length l.size ≡ length l.initial.size) × (length l.depth ≡ length l.initial.depth)
-
-abbrev pub decreases-loop-k : goal.decreases-loop-k
-decreases-loop-k l = l.count - l.k
+invariant-loop-k l = record {
+  fits : (l.count ≤ 1024) × (16 * l.count ≤ length l.nodes);
+  none : first (node_refusal l.nodes) l.k ≡ 0;
+  held : Held l.nodes l.k l.extents;
+  most : l.largest ≡ largest l.nodes l.k;
+}

@@ -1,0 +1,219 @@
+-- What the tests of the records know of the constraints that are finished. Assumes nothing.
+use Prim.Native.Nat.{ℕ, zero, suc, ◌+◌, ◌-◌, max, ◌≤◌, ◌<◌}
+use mathlib.Core.Path.{◌≡◌, refl, sym, ap, ap₂, subst, ◌∙◌}
+use mathlib.Core.Bool.{Bool, true, false, ◌&&◌}
+use mathlib.Core.List.{List, [], ◌∷◌, ◌++◌, map, map-append}
+use native.Mathlib.Numerals.{add-one}
+use Rattle.std.proofs.Common.{fold, ⊎_elim, eq-or-lt_of_le, le_of_suc-le-suc, get_or-set_same, get_or-set_other}
+use Rattle.std.proofs.lemmas.List.{length-map, take-map, drop-map}
+use native.Mathlib.Omega.{arith}
+use borrow.Author.Tests.{le-leb, lt-leb, eq-eqb, ne_eqb}
+use lib.Dec.{eqb, leb}
+use lib.ListN.{length, get_or, take, drop, set, length-drop}
+use Rattle.record.specs.Refusal.{◌or_else◌, ◌unless◌, first}
+use Rattle.record.specs.Refused.{number_of}
+use Rattle.record.specs.RefusalLaws.{none_more, first_here, never_none}
+use Rattle.record.specs.declared.refusal.Refusal.{Refusal}
+use Rattle.constraint.specs.Constraint.{Formula, levels, levels_all, quantifiers, quantifiers_all}
+use Rattle.constraint.specs.Records.{record_at, is_record, is_ranged, takes, gather, none, finish, finished, formula_at, record_refusal, records_refusal}
+use Rattle.constraint.specs.Starts.{begun, start_at}
+use Rattle.constraint.specs.Code.{greatest, binds, depths, quantified, starts}
+use Rattle.constraint.specs.declared.Record.{Record}
+use Rattle.constraint.specs.declared.stack.Finished.{Finished}
+
+-- ---- the greatest, as the code finds it
+greatest_from : {A : Type 0} (f : A → ℕ) (a : ℕ) (xs : List A) → fold (λ a x. max a (f x)) a xs ≡ max a (greatest (map f xs))
+unfolding greatest
+greatest_from f a [] = omega arith
+greatest_from f a (x ∷ xs) = greatest_from f (max a (f x)) xs ∙ omega arith
+
+pub greatest_is : {A : Type 0} (f : A → ℕ) (xs : List A) → fold (λ a x. max a (f x)) 0 xs ≡ greatest (map f xs)
+greatest_is f xs = greatest_from f 0 xs ∙ omega arith
+
+-- ---- what a record finishes, by the greatest of what it takes
+levels_all_lem : (cs : List (Formula ℕ)) → levels_all (gather cs) ≡ greatest (map levels cs)
+unfolding gather greatest levels_all
+levels_all_lem [] = refl
+levels_all_lem (c ∷ cs) = ap (max (levels c)) (levels_all_lem cs)
+
+quantifiers_all_lem : (cs : List (Formula ℕ)) → quantifiers_all (gather cs) ≡ greatest (map quantifiers cs)
+unfolding gather greatest quantifiers_all
+quantifiers_all_lem [] = refl
+quantifiers_all_lem (c ∷ cs) = ap (max (quantifiers c)) (quantifiers_all_lem cs)
+
+module _ (f : Formula ℕ → ℕ) where
+  none_taken : (cs : List (Formula ℕ)) → length cs ≡ 0 → greatest (map f cs) ≡ 0
+  unfolding greatest
+  none_taken [] e = refl
+  none_taken (c ∷ cs) e = absurd (omega arith)
+
+  one_taken : (cs : List (Formula ℕ)) → length cs ≡ 1 → f (get_or cs 0 none) ≡ greatest (map f cs)
+  unfolding greatest
+  one_taken [] e = absurd (omega arith)
+  one_taken (c ∷ []) e = omega arith
+  one_taken (c ∷ c' ∷ cs) e = absurd (omega arith)
+
+levels_is : (x : Record) (cs : List (Formula ℕ)) → length cs ≡ takes x → levels (finish x cs) ≡ 1 + greatest (map levels cs)
+unfolding levels finish
+levels_is (Record.Atom rel i) cs e = omega (arith, none_taken levels cs e)
+levels_is Record.Not cs e = omega (arith, one_taken levels cs e)
+levels_is (Record.And m) cs e = omega (arith, levels_all_lem cs)
+levels_is (Record.Or m) cs e = omega (arith, levels_all_lem cs)
+levels_is (Record.ForAll v lo hi) cs e = omega (arith, one_taken levels cs e)
+levels_is (Record.Exists v lo hi) cs e = omega (arith, one_taken levels cs e)
+
+quantifiers_is : (x : Record) (cs : List (Formula ℕ)) → length cs ≡ takes x → quantifiers (finish x cs) ≡ binds x + greatest (map quantifiers cs)
+unfolding quantifiers finish
+quantifiers_is (Record.Atom rel i) cs e = omega (arith, none_taken quantifiers cs e)
+quantifiers_is Record.Not cs e = omega (arith, one_taken quantifiers cs e)
+quantifiers_is (Record.And m) cs e = omega (arith, quantifiers_all_lem cs)
+quantifiers_is (Record.Or m) cs e = omega (arith, quantifiers_all_lem cs)
+quantifiers_is (Record.ForAll v lo hi) cs e = omega (arith, one_taken quantifiers cs e)
+quantifiers_is (Record.Exists v lo hi) cs e = omega (arith, one_taken quantifiers cs e)
+
+-- ---- the test of a depth and of the quantifiers
+abbrev Within : ℕ → ℕ → ℕ
+Within d q = 7 unless leb d 16 && leb q 4
+
+pub too_deep : (d q : ℕ) → 16 < d → 7 ≡ Within d q
+too_deep d q l = rw (lt-leb d 16 l)
+
+pub too_many : (d q : ℕ) → 4 < q → 7 ≡ Within d q
+too_many d q l = rw (lt-leb q 4 l) (elim (leb d 16) as (λ (t : Bool). 7 ≡ 7 unless t && false) [ true ↦ refl | false ↦ refl ])
+
+pub shallow : (d q : ℕ) → d ≤ 16 → q ≤ 4 → 0 ≡ Within d q
+shallow d q l h = rw (le-leb d 16 l, le-leb q 4 h)
+
+-- ---- before record k: none was refused, and the stack has what is kept of each finished constraint
+pub record Stacked (n : ℕ) (b : List ℕ) (k : ℕ) (s : List Finished) : Type 0 where
+  pub none_yet : first (record_refusal n b) k ≡ 0
+  pub depths_are : depths s ≡ map levels (finished b k)
+  pub quantified_are : quantified s ≡ map quantifiers (finished b k)
+  pub starts_are : starts s ≡ begun b k
+
+pub none_stacked : (n : ℕ) (b : List ℕ) {s : List Finished} → s ≡ [] → Stacked n b 0 s
+unfolding first finished begun
+none_stacked n b e = rw e (record { none_yet = refl; depths_are = refl; quantified_are = refl; starts_are = refl })
+
+module _ (n : ℕ) (b : List ℕ) (k : ℕ) (s : List Finished) (p : Stacked n b k s) where
+  pub height : length (finished b k) ≡ length s
+  height = sym (length-map (finished b k) levels) ∙ ap length (sym p.depths_are) ∙ length-map s (λ (c : Finished). c.depth)
+
+  -- the tests, in order
+  pub five_record : is_record n b k ≡ false → record_refusal n b k ≡ 5
+  unfolding record_refusal
+  five_record e = simp e
+
+  -- record k is x, and takes m
+  module _ (is : is_record n b k ≡ true) (x : Record) (ix : x ≡ record_at b k) (m : ℕ) (im : m ≡ takes x) where
+    pub five_few : length s < m → record_refusal n b k ≡ 5
+    unfolding record_refusal
+    five_few l = simp (is, height, sym ix, sym im, lt-leb _ _ l)
+
+    module _ (enough : m ≤ length s) where
+      pub six : is_ranged x ≡ false → record_refusal n b k ≡ 6
+      unfolding record_refusal
+      six e = simp (is, height, sym ix, sym im, le-leb _ _ enough, e)
+
+      -- what is taken and what is left
+      base_is : length (finished b k) - takes (record_at b k) ≡ length s - m
+      base_is = ap₂ (λ (u w : ℕ). u - w) height (sym (im ∙ ap takes ix))
+
+      new_is : formula_at b k ≡ finish x (drop (length s - m) (finished b k))
+      unfolding formula_at
+      new_is = ap₂ (λ (y : Record) (i : ℕ). finish y (drop i (finished b k))) (sym ix) base_is
+
+      next_is : finished b (k + 1) ≡ take (length s - m) (finished b k) ++ formula_at b k ∷ []
+      unfolding finished formula_at
+      next_is = ap (finished b) (add-one k) ∙ ap (λ (i : ℕ). take i (finished b k) ++ formula_at b k ∷ []) base_is
+
+      taken_length : length (drop (length s - m) (finished b k)) ≡ takes x
+      taken_length = length-drop (length s - m) (finished b k) ∙ omega (arith, height)
+
+      mapped : (g : Finished → ℕ) (f : Formula ℕ → ℕ) → map g s ≡ map f (finished b k) →
+          map g (drop (length s - m) s) ≡ map f (drop (length s - m) (finished b k))
+      mapped g f e = sym (drop-map g (length s - m) s) ∙ ap (drop (length s - m)) e ∙ drop-map f (length s - m) (finished b k)
+
+      -- those that are taken
+      module _ (cs : List Finished) (ec : cs ≡ drop (length s - m) s) where
+        told : (g : Finished → ℕ) (f : Formula ℕ → ℕ) → map g s ≡ map f (finished b k) → map g cs ≡ map f (drop (length s - m) (finished b k))
+        told g f e = ap (map g) ec ∙ mapped g f e
+
+        depth_told : 1 + greatest (depths cs) ≡ levels (formula_at b k)
+        depth_told = ap (λ (l : List ℕ). 1 + greatest l) (told (λ c. c.depth) levels p.depths_are) ∙ sym (ap levels new_is ∙ levels_is x _ taken_length)
+
+        quantifiers_told : binds x + greatest (quantified cs) ≡ quantifiers (formula_at b k)
+        quantifiers_told = ap (λ (l : List ℕ). binds x + greatest l) (told (λ c. c.quantifiers) quantifiers p.quantified_are) ∙ sym (ap quantifiers new_is ∙ quantifiers_is x _ taken_length)
+
+        -- where it starts
+        start_base : length (begun b k) - takes (record_at b k) ≡ length s - m
+        start_base = ap₂ (λ (u w : ℕ). u - w) (ap length (sym p.starts_are) ∙ length-map s (λ (c : Finished). c.start)) (sym (im ∙ ap takes ix))
+
+        pub start_told : get_or (starts cs) 0 k ≡ start_at b k
+        unfolding start_at
+        start_told =
+            ap (λ (l : List Finished). get_or (starts l) 0 k) ec
+            ∙ ap (λ (l : List ℕ). get_or l 0 k) (sym (drop-map (λ (c : Finished). c.start) (length s - m) s))
+            ∙ ap₂ (λ (i : ℕ) (l : List ℕ). get_or (drop i l) 0 k) (sym start_base) p.starts_are
+
+        module _ (ranged : is_ranged x ≡ true) where
+          pub seven : record_refusal n b k ≡ Within (1 + greatest (depths cs)) (binds x + greatest (quantified cs))
+          unfolding record_refusal
+          seven = simp (is, height, sym ix, sym im, le-leb _ _ enough, ranged, depth_told, quantifiers_told)
+
+          -- it passes, and is finished
+          snoc : (g : Finished → ℕ) (f : Formula ℕ → ℕ) (c : Finished) → map g s ≡ map f (finished b k) → g c ≡ f (formula_at b k) →
+              map g (take (length s - m) s ++ c ∷ []) ≡ map f (finished b (k + 1))
+          snoc g f c e h =
+              map-append g (take (length s - m) s) (c ∷ [])
+              ∙ ap₂ (λ (l : List ℕ) (i : ℕ). l ++ i ∷ []) (sym (take-map g (length s - m) s) ∙ ap (take (length s - m)) e ∙ take-map f (length s - m) (finished b k)) h
+              ∙ sym (ap (map f) next_is ∙ map-append f (take (length s - m) (finished b k)) (formula_at b k ∷ []))
+
+          begun_next : (i : ℕ) → i ≡ start_at b k → take (length s - m) (begun b k) ++ i ∷ [] ≡ begun b (k + 1)
+          unfolding begun start_at
+          begun_next i e =
+              ap₂ (λ (j i : ℕ). take j (begun b k) ++ i ∷ []) (sym start_base) e
+              ∙ ap (begun b) (sym (add-one k))
+
+          pub stacked : (c : Finished) → 0 ≡ Within (1 + greatest (depths cs)) (binds x + greatest (quantified cs)) → c.depth ≡ 1 + greatest (depths cs) →
+              c.quantifiers ≡ binds x + greatest (quantified cs) → c.start ≡ get_or (starts cs) 0 k → Stacked n b (k + 1) (take (length s - m) s ++ c ∷ [])
+          stacked c z d q i = record {
+            none_yet = none_more (record_refusal n b) k p.none_yet (seven ∙ sym z);
+            depths_are = snoc (λ c. c.depth) levels c p.depths_are (d ∙ depth_told);
+            quantified_are = snoc (λ c. c.quantifiers) quantifiers c p.quantified_are (q ∙ quantifiers_told);
+            starts_are =
+                map-append (λ (c : Finished). c.start) (take (length s - m) s) (c ∷ [])
+                ∙ ap (λ (l : List ℕ). l ++ c.start ∷ []) (sym (take-map (λ (c : Finished). c.start) (length s - m) s) ∙ ap (take (length s - m)) p.starts_are)
+                ∙ begun_next c.start (i ∙ start_told);
+          }
+
+-- ---- the answer
+-- record k is refused
+pub stop : (n : ℕ) (b : List ℕ) (m k : ℕ) (s : List Finished) → Stacked n b k s → (r : Refusal) → k < m → number_of r ≡ record_refusal n b k → number_of r ≡ records_refusal n b m
+unfolding records_refusal
+stop n b m k s p r l e = go (number_of r) (never_none r) e
+  where
+    go : (x : ℕ) → (x ≡ 0 → ⊥) → x ≡ record_refusal n b k → x ≡ records_refusal n b m
+    go zero h e = absurd (h refl)
+    go (suc x) h e = sym (ap (λ (y : ℕ). y or_else 7 unless eqb (length (finished b m)) 1) (first_here (record_refusal n b) x k p.none_yet (sym e) m l))
+
+-- all passed
+module _ (n : ℕ) (b : List ℕ) (m k : ℕ) (s : List Finished) (p : Stacked n b k s) (is : k ≡ m) where
+  at_end : Stacked n b m s
+  at_end = subst (λ (j : ℕ). Stacked n b j s) is p
+
+  pub one_stays : length s ≡ 1 → records_refusal n b m ≡ 0
+  unfolding records_refusal
+  one_stays e = simp (at_end.none_yet, height n b m s at_end, eq-eqb _ _ e)
+
+  pub not_one : (length s ≡ 1 → ⊥) → 7 ≡ records_refusal n b m
+  unfolding records_refusal
+  not_one e = simp (at_end.none_yet, height n b m s at_end, ne_eqb _ _ e)
+
+-- one more element that is written
+pub more_written : (f : ℕ → ℕ) (l : List ℕ) (k x : ℕ) → ((j : ℕ) → j < k → get_or l j 0 ≡ f j) → x ≡ f k → k < length l → (j : ℕ) → j < k + 1 → get_or (set l k x) j 0 ≡ f j
+more_written f l k x h e i j g =
+    ⊎_elim
+    (λ q. ap (λ (n : ℕ). get_or (set l k x) n 0) q ∙ get_or-set_same l k x 0 i ∙ e ∙ ap f (sym q))
+    (λ q. get_or-set_other l k j x 0 (λ z. omega arith) ∙ h j q)
+    (eq-or-lt_of_le (le_of_suc-le-suc (subst (λ (n : ℕ). j < n) (add-one k) g)))

@@ -1,0 +1,133 @@
+// Constraint records that passed their tests (document 01, "The file").
+ghost use Rattle.std.specs.Prelude.{◌≡◌, ◌+◌, ◌/◌, ◌≤◌, ◌<◌, ◌&&◌, leb, length, get_or, IfOk};
+ghost use Rattle.record.specs.Refusal.{◌unless◌};
+ghost use Rattle.record.specs.Refused.{refusal_of};
+ghost use Rattle.tree.specs.Nodes.{Valid};
+ghost use Rattle.constraint.specs.Records.{records_refusal};
+ghost use Rattle.constraint.specs.Starts.{Ready, NoLarger};
+ghost use Rattle.constraint.specs.Code.{binds, greatest, depths, quantified, starts};
+
+use crate::stack::{Finished, Stack};
+use crate::{Record, is_ranged, is_record, own_vars, quantifier_of, record_in, taken_by};
+use record::Refusal;
+
+// They stand over nodes that passed too, of which no tree is larger than `largest`; `starts` has the first record of each constraint.
+#[derive(Drop)]
+pub struct Records<'a> {
+    pub nodes: &'a [u8],
+    pub constraints: &'a [u8],
+    pub starts: [u8; 256],
+    pub count: usize,
+    pub largest: usize,
+    pub ghost ready: { Ready nodes.now constraints.now count starts },
+    pub ghost no_larger: { NoLarger nodes.now largest },
+}
+
+// What record number k finishes, from those that it takes: 7.
+fn finish(k: u8, r: Record, taken: &[Finished]) -> Result<Finished, Refusal>
+    ensures refusal { refusal_of result ≡ 7 unless leb (1 + greatest (depths taken.now)) 16 && leb (binds r + greatest (quantified taken.now)) 4 }
+    ensures depth { IfOk result (λ c. c.depth ≡ 1 + greatest (depths taken.now)) }
+    ensures quantifiers { IfOk result (λ c. c.quantifiers ≡ binds r + greatest (quantified taken.now)) }
+    ensures start { IfOk result (λ c. c.start ≡ get_or (starts taken.now) 0 k) }
+{
+    let deepest = taken.iter().map(|c| c.depth).max().unwrap_or(0);
+    let most = taken.iter().map(|c| c.quantifiers).max().unwrap_or(0);
+    let depth = 1 + deepest as usize;
+    let quantifiers = quantifier_of(r) + most as usize;
+    if 16 < depth || 4 < quantifiers {
+        return Err(Refusal::Shape);
+    }
+    Ok(Finished {
+        depth: depth as u8,
+        quantifiers: quantifiers as u8,
+        start: taken.first().map_or(k, |c| c.start),
+    })
+}
+
+impl<'a> Records<'a> {
+    ghost use Rattle.constraint.specs.Constraint.{num_vars, num_vars_all};
+    ghost use Rattle.constraint.specs.Starts.{start_at};
+    ghost use Rattle.constraint.specs.Views.{constraint_of, constraints_before, Taken};
+
+    // The tests of each record: 5, 6, then 7; then 7 unless just one constraint is left.
+    pub fn new(
+        nodes: &'a [u8],
+        constraints: &'a [u8],
+        largest: usize,
+    ) -> Result<Records<'a>, Refusal>
+        requires nodes { Valid nodes.now (length nodes.now / 16) × NoLarger nodes.now largest }
+        requires few { length constraints.now / 24 ≤ 256 }
+        ensures refusal { refusal_of result ≡ records_refusal (length nodes.now / 16) constraints.now (length constraints.now / 24) }
+        ensures records { IfOk result (λ r. (r.nodes.now ≡ nodes.now) × (r.constraints.now ≡ constraints.now) × (r.count ≡ length constraints.now / 24)) }
+    {
+        let count = constraints.len() / 24;
+        let mut starts = [0u8; 256];
+        let mut stack = Stack::new();
+        for k in 0..count {
+            if !is_record(constraints, k, nodes.len() / 16) {
+                return Err(Refusal::Constraint);
+            }
+            let r = record_in(constraints, k);
+            let m = taken_by(r);
+            if stack.height() < m {
+                return Err(Refusal::Constraint);
+            }
+            if !is_ranged(r) {
+                return Err(Refusal::Range);
+            }
+            let new = finish(k as u8, r, stack.last(m))?;
+            starts[k] = new.start;
+            stack.replace(m, new);
+        }
+        if stack.height() != 1 {
+            return Err(Refusal::Shape);
+        }
+        Ok(Records {
+            nodes,
+            constraints,
+            starts,
+            count,
+            largest,
+        })
+    }
+
+    // The last record: its constraint is the one that is left.
+    pub fn root(&self) -> usize
+        ensures { result + 1 ≡ self.now.count }
+    {
+        self.count - 1
+    }
+
+    // The first record of constraint k.
+    pub fn start(&self, k: usize) -> usize
+        requires { k < self.now.count }
+        ensures { result ≡ start_at self.now.constraints.now k }
+    {
+        usize::from(self.starts[k])
+    }
+
+    // The number of variables of constraint k.
+    #[cycle(num_vars_num_vars_all)]
+    pub fn num_vars(&self, k: usize) -> usize
+        requires { k < self.now.count }
+        ensures { result ≡ num_vars (constraint_of self.now k) }
+    {
+        let r = record_in(self.constraints, k);
+        let taken = self.num_vars_all(taken_by(r), k);
+        taken.max(own_vars(self.nodes, r))
+    }
+
+    // The most of the last m constraints that are finished before record end.
+    #[cycle(num_vars_num_vars_all)]
+    fn num_vars_all(&self, m: usize, end: usize) -> usize
+        requires { Taken self.now m end }
+        ensures { result ≡ num_vars_all (constraints_before self.now m end) }
+    {
+        if m == 0 {
+            return 0;
+        }
+        let last = end - 1;
+        let before = self.num_vars_all(m - 1, self.start(last));
+        before.max(self.num_vars(last))
+    }
+}

@@ -1,0 +1,19 @@
+-- `interval::Point::with` meets its contract. Assumes nothing.
+use mathlib.Core.Path.{refl, sym}
+use native.Mathlib.Omega.{arith}
+use lib.Seq.{take-set-lt}
+use Rattle.interval.specs.BoxLaws.{set_blank, values_length, set_past}
+use Rattle.interval.proofs.point.Point.with.Goals as goal
+
+pub returns-then-self-i : goal.returns-then-self-i
+returns-then-self-i c =
+    let p = c.args.self in
+    (refl, sym (set_past _ _ _ (omega (arith, values_length p.values p.count p.few p.blank, c.if-self-i.true))))
+
+pub invariant_of-point : goal.invariant_of-point
+invariant_of-point c =
+    let p = c.args.self in
+    record { few = p.few; blank = set_blank p.values p.count p.few p.blank _ _ c.if-self-i.false }
+
+pub returns : goal.returns
+returns c = (refl, take-set-lt _ _ _ _ c.if-self-i.false)

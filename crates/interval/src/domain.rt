@@ -1,0 +1,150 @@
+// Boxes: an interval for each variable (IntervalDomain of interval.rs).
+ghost use Rattle.std.specs.Prelude.{◌≡◌, ◌<◌, ◌≤◌, ◌&&◌, leb, length, get_or, set, replicate, IfOk};
+ghost use Rattle.record.specs.Refusal.{◌unless◌};
+ghost use Rattle.record.specs.Refused.{refusal_of};
+ghost use Rattle.interval.specs.Boxes.{missing, starting, midpoints, all_below, widest, any_empty, all_sound};
+
+use super::Interval;
+use super::point::Point;
+use record::Refusal;
+
+// That of a variable beyond the list.
+pub const MISSING: Interval = Interval {
+    lo: -10.0,
+    hi: 10.0,
+};
+
+// The box of variable i.
+pub fn box_at(boxes: &[Interval], i: usize) -> Interval
+    ensures { result ≡ get_or boxes.now i missing }
+{
+    boxes.get(i).copied().unwrap_or(MISSING)
+}
+
+// Whether a call takes each of them.
+#[tactic(auto, unfolding(crate::specs::Boxes::all_sound))]
+pub fn all_sound(boxes: &[Interval]) -> bool
+    ensures { result ≡ all_sound boxes.now }
+{
+    boxes.iter().all(|b| b.is_sound())
+}
+
+// At most 16 boxes by value: the first `count` of the list.
+#[derive(Clone, Copy)]
+pub struct Domain {
+    pub boxes: [Interval; 16],
+    pub count: usize,
+    pub ghost few: { count ≤ 16 },
+}
+
+impl Domain {
+    ghost use Rattle.interval.specs.Views.{intervals_of, values_of};
+
+    // The first n of the bounds, a missing one being [-10, 10].
+    pub fn new(bounds: &[Interval], n: usize) -> Domain
+        requires { n ≤ 16 }
+        ensures { (result.count ≡ n) × (intervals_of result ≡ starting n bounds.now) }
+    {
+        let known = n.min(bounds.len());
+        let mut boxes = [MISSING; 16];
+        boxes[..known].copy_from_slice(&bounds[..known]);
+        Domain { boxes, count: n }
+    }
+
+    // n boxes, each the same.
+    pub fn filled(v: Interval, n: usize) -> Domain
+        requires { n ≤ 16 }
+        ensures { (result.count ≡ n) × (intervals_of result ≡ replicate n v) }
+    {
+        Domain {
+            boxes: [v; 16],
+            count: n,
+        }
+    }
+
+    // With v as box i. A box beyond the list alters nothing in it.
+    pub fn with(self, i: usize, v: Interval) -> Domain
+        ensures { (result.count ≡ self.count) × (intervals_of result ≡ set (intervals_of self) i v) }
+    {
+        if self.count <= i {
+            return self;
+        }
+        let mut domain = self;
+        domain.boxes[i] = v;
+        domain
+    }
+
+    // The boxes that a call takes: at most 16, and each box sound; else 9.
+    pub fn of_sound(boxes: &[Interval]) -> Result<Domain, Refusal>
+        ensures refusal { refusal_of result ≡ (9 unless leb (length boxes.now) 16 && all_sound boxes.now) }
+        ensures value { IfOk result (λ d. (d.count ≡ length boxes.now) × (intervals_of d ≡ boxes.now)) }
+    {
+        if (boxes.len() <= 16) && all_sound(boxes) {
+            return Ok(Self::new(boxes, boxes.len()));
+        }
+        Err(Refusal::Boxes)
+    }
+
+    pub fn as_slice(&self) -> &[Interval]
+        ensures { (result.now ≡ intervals_of self.now) × (length result.now ≡ self.now.count) }
+    {
+        &self.boxes[..self.count]
+    }
+
+    // The first n of these bounds.
+    pub fn starting(&self, n: usize) -> Domain
+        requires { n ≤ 16 }
+        ensures { (result.count ≡ n) × (intervals_of result ≡ starting n (intervals_of self.now)) }
+    {
+        Self::new(self.as_slice(), n)
+    }
+
+    // The midpoint of each box.
+    #[tactic(auto, unfolding(crate::specs::Boxes::midpoints, crate::specs::Boxes::padded))]
+    pub fn midpoints(&self) -> Point
+        ensures { (result.count ≡ self.now.count) × (values_of result ≡ midpoints (intervals_of self.now)) }
+    {
+        let mut values = [0.0; 16];
+        for (i, b) in self.as_slice().iter().enumerate() {
+            values[i] = b.midpoint();
+        }
+        Point {
+            values,
+            count: self.count,
+        }
+    }
+
+    // Whether every box is narrower than the tolerance.
+    #[tactic(auto, unfolding(crate::specs::Boxes::all_below))]
+    pub fn all_below(&self, tolerance: f64) -> bool
+        ensures { result ≡ all_below tolerance (intervals_of self.now) }
+    {
+        self.as_slice().iter().all(|b| b.width() < tolerance)
+    }
+
+    // The number of the last widest box.
+    pub fn widest(&self) -> usize
+        requires { 0 < self.now.count }
+        ensures { (result < self.now.count) × (result ≡ widest (intervals_of self.now)) }
+    {
+        let boxes = self.as_slice();
+        let mut at = 0;
+        let mut most = boxes[0].width();
+        for i in 1..boxes.len() {
+            let w = boxes[i].width();
+            if w < most {
+                continue;
+            }
+            at = i;
+            most = w;
+        }
+        at
+    }
+
+    #[tactic(auto, unfolding(crate::specs::Boxes::any_empty))]
+    pub fn is_empty(&self) -> bool
+        ensures { result ≡ any_empty (intervals_of self.now) }
+    {
+        self.as_slice().iter().any(|b| b.is_empty())
+    }
+}

@@ -1,0 +1,91 @@
+// Boxes as two lists of ends, as C gives and takes them.
+ghost use Rattle.std.specs.Prelude.{◌≡◌, ◌≤◌, length, IfOk};
+ghost use Rattle.record.specs.Leaving.{◌leaving◌};
+ghost use Rattle.record.specs.Refusal.{◌unless◌};
+ghost use Rattle.record.specs.Refused.{refusal_of, numbered};
+ghost use Rattle.record.specs.Views.{old, final};
+ghost use Rattle.std.proofs.Math.Seq.{paste};
+ghost use Rattle.interval.specs.Boxes.{intervals, lows, highs, are_paired, are_boxes};
+ghost use Rattle.interval.specs.Domain.{domain_new, domain_is_empty};
+ghost use Rattle.interval.specs.Views.{intervals_of};
+
+use super::Interval;
+use super::domain::{Domain, MISSING, all_sound};
+use record::Refusal;
+
+impl Domain {
+    // The boxes of as many ends of each kind, at most 16; else 9.
+    #[tactic(auto, unfolding(crate::specs::Boxes::are_paired))]
+    pub fn of_ends(lo: &[f64], hi: &[f64]) -> Result<Domain, Refusal>
+        ensures refusal { refusal_of result ≡ (9 unless are_paired lo.now hi.now) }
+        ensures value { IfOk result (λ d. (d.count ≡ length lo.now) × (intervals_of d ≡ intervals lo.now hi.now)) }
+    {
+        let paired = (lo.len() == hi.len()) & (lo.len() <= 16);
+        if !paired {
+            return Err(Refusal::Boxes);
+        }
+        let mut boxes = [MISSING; 16];
+        for i in 0..lo.len() {
+            boxes[i] = Interval::new(lo[i], hi[i]);
+        }
+        Ok(Domain {
+            boxes,
+            count: lo.len(),
+        })
+    }
+
+    // And each of them sound.
+    pub fn of_sound_ends(lo: &[f64], hi: &[f64]) -> Result<Domain, Refusal>
+        ensures refusal { refusal_of result ≡ (9 unless are_boxes lo.now hi.now) }
+        ensures value { IfOk result (λ d. (d.count ≡ length lo.now) × (intervals_of d ≡ intervals lo.now hi.now)) }
+    {
+        let domain = Domain::of_ends(lo, hi)?;
+        if !all_sound(domain.as_slice()) {
+            return Err(Refusal::Boxes);
+        }
+        Ok(domain)
+    }
+
+    // Writes the ends to the first places of two lists.
+    pub fn write_ends(&self, lo: &mut [f64], hi: &mut [f64])
+        requires { (self.now.count ≤ length lo.old) × (self.now.count ≤ length hi.old) }
+        ensures lo_value { final lo ≡ paste (old lo) 0 (lows (intervals_of self.now)) self.now.count }
+        ensures hi_value { final hi ≡ paste (old hi) 0 (highs (intervals_of self.now)) self.now.count }
+    {
+        for (i, b) in self.as_slice().iter().enumerate() {
+            lo[i] = b.lo;
+            hi[i] = b.hi;
+        }
+    }
+}
+
+// ---- what the exported calls call
+
+// IntervalDomain::new. A refusal writes nothing.
+pub fn domain_new(
+    lo: &[f64],
+    hi: &[f64],
+    n: usize,
+    out_lo: &mut [f64],
+    out_hi: &mut [f64],
+) -> Result<(), Refusal>
+    ensures { (refusal_of result leaving (final out_lo, final out_hi)) ≡ domain_new lo.now hi.now n (old out_lo) (old out_hi) }
+{
+    let bounds = Domain::of_sound_ends(lo, hi)?;
+    if 16 < n {
+        return Err(Refusal::Boxes);
+    }
+    if (n <= out_lo.len()) & (n <= out_hi.len()) {
+        bounds.starting(n).write_ends(out_lo, out_hi);
+        return Ok(());
+    }
+    Err(Refusal::Room)
+}
+
+// IntervalDomain::is_empty.
+pub fn domain_is_empty(lo: &[f64], hi: &[f64]) -> Result<bool, Refusal>
+    ensures { numbered result ≡ domain_is_empty lo.now hi.now }
+{
+    let domain = Domain::of_ends(lo, hi)?;
+    Ok(domain.is_empty())
+}
