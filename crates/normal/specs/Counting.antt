@@ -86,16 +86,16 @@ total_one (c ∷ d ∷ cs) e = absurd (omega arith)
 finish_kept : (x : Record) (cs : List (Formula ℕ)) → length cs ≡ takes x → kept (finish x cs) ≡ total cs + kept_of x
 finish_kept x cs e = of x e
   where
-    kept_too : (x : Record) → length cs ≡ takes x → (kept_of x ≡ 0 → ⊥) → kept (finish x cs) ≡ total cs + 1
+    kept_too : (x : Record) → length cs ≡ takes x → (x ≡ Record.Not → ⊥) → kept (finish x cs) ≡ total cs + 1
     kept_too x e h = ap length (nnf_finish x cs e h) ∙ length-append (records_of_all (to_nnf_all (gather cs))) (x ∷ []) ∙ ap (λ (n : ℕ). n + 1) (total_gather cs)
 
     of : (x : Record) → length cs ≡ takes x → kept (finish x cs) ≡ total cs + kept_of x
-    of (Record.Atom rel i) e = kept_too (Record.Atom rel i) e (λ z. omega arith)
+    of (Record.Atom rel i) e = kept_too (Record.Atom rel i) e (λ z. cc)
     of Record.Not e = unfold finish to_nnf in as_many (get_or cs 0 none) ∙ total_one cs e ∙ sym (add-zero _)
-    of (Record.And m) e = kept_too (Record.And m) e (λ z. omega arith)
-    of (Record.Or m) e = kept_too (Record.Or m) e (λ z. omega arith)
-    of (Record.ForAll v lo hi) e = kept_too (Record.ForAll v lo hi) e (λ z. omega arith)
-    of (Record.Exists v lo hi) e = kept_too (Record.Exists v lo hi) e (λ z. omega arith)
+    of (Record.And m) e = kept_too (Record.And m) e (λ z. cc)
+    of (Record.Or m) e = kept_too (Record.Or m) e (λ z. cc)
+    of (Record.ForAll v lo hi) e = kept_too (Record.ForAll v lo hi) e (λ z. cc)
+    of (Record.Exists v lo hi) e = kept_too (Record.Exists v lo hi) e (λ z. cc)
 
 -- ---- of accepted records
 module _ (count : ℕ) (b : List ℕ) (n : ℕ) (p : records_refusal count b n ≡ 0) where

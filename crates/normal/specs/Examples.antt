@@ -1,5 +1,5 @@
 -- Normal forms, computed.
-use Rattle.std.specs.Prelude.{ℕ, ◌≡◌, refl, List, [], ◌∷◌, ◌++◌, Float, replicate}
+use Rattle.std.specs.Prelude.{ℕ, ◌≡◌, refl, Ok, Err, List, [], ◌∷◌, ◌++◌, Float, replicate}
 use Rattle.std.specs.Float.Ieee.{to_bits}
 use Rattle.number.specs.Notation.{bits}
 use Rattle.tree.specs.Tree.{Tree}
@@ -14,7 +14,6 @@ use Rattle.constraint.specs.Encoding.{record_bytes, records_bytes}
 use Rattle.file.specs.Computing.{computing}
 use Rattle.normal.specs.NormalForm.{to_nnf}
 use Rattle.normal.specs.Given.{nnf_records, nnf_refusal, to_nnf_given}
-use Rattle.normal.specs.declared.Nnf.{Nnf}
 
 abbrev atom : Relation → Constraint
 atom rel = Atom rel (Tree.Var 3)
@@ -40,11 +39,11 @@ twice = refl
 abbrev given : List ℕ
 given = records_bytes (Record.Atom GtZero 0 ∷ Record.Not ∷ [])
 
-one_record : to_nnf_given (nodes_bytes (Node.Var 3 ∷ [])) given (replicate 25 7) ≡ (Nnf.Records 1 leaving record_bytes (Record.Atom LeZero 0) ++ 7 ∷ [])
+one_record : to_nnf_given (nodes_bytes (Node.Var 3 ∷ [])) given (replicate 25 7) ≡ (Ok 1 leaving record_bytes (Record.Atom LeZero 0) ++ 7 ∷ [])
 unfolding computing to_nnf nnf_records nnf_refusal to_nnf_given to_bits
 one_record = refl
 
 -- 23 bytes are too few
-too_short : to_nnf_given (nodes_bytes (Node.Var 3 ∷ [])) given (replicate 23 7) ≡ (Nnf.Refused 10 leaving replicate 23 7)
+too_short : to_nnf_given (nodes_bytes (Node.Var 3 ∷ [])) given (replicate 23 7) ≡ (Err 10 leaving replicate 23 7)
 unfolding computing to_nnf nnf_records nnf_refusal to_nnf_given to_bits
 too_short = refl

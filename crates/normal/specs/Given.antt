@@ -1,5 +1,5 @@
 -- `to_nnf` on records that a caller gives: the refusals, and the answer with the output slice at exit.
-use Rattle.std.specs.Prelude.{ℕ, zero, suc, ◌+◌, ◌*◌, ◌-◌, ◌/◌, List, leb, length}
+use Rattle.std.specs.Prelude.{ℕ, zero, suc, ◌+◌, ◌*◌, ◌-◌, ◌/◌, List, leb, length, Result, Ok, Err}
 use Rattle.std.proofs.lemmas.List.Edits.{sets}
 use Rattle.record.specs.Leaving.{Leaving, ◌leaving◌}
 use Rattle.record.specs.Refusal.{◌or_else◌, ◌unless◌, refused_or}
@@ -8,7 +8,6 @@ use Rattle.constraint.specs.Records.{record_at, formula_at}
 use Rattle.constraint.specs.Encoding.{records_bytes, records_of}
 use Rattle.file.specs.File.{given_refusal}
 use Rattle.normal.specs.NormalForm.{to_nnf}
-use Rattle.normal.specs.declared.Nnf.{Nnf}
 
 -- how many records are no Not
 abbrev pub kept_of : Record → ℕ
@@ -32,7 +31,7 @@ unfoldable pub nnf_refusal : List ℕ → List ℕ → List ℕ → ℕ
 nnf_refusal nodes b out = given_refusal nodes b or_else 10 unless leb (24 * length (nnf_records b (length b / 24))) (length out)
 
 -- the answer, and the output at exit: a refusal alters nothing; else the number of records, written from the start, and the places past the last one stay
-unfoldable pub to_nnf_given : List ℕ → List ℕ → List ℕ → Leaving Nnf (List ℕ)
+unfoldable pub to_nnf_given : List ℕ → List ℕ → List ℕ → Leaving (Result ℕ ℕ) (List ℕ)
 to_nnf_given nodes b out =
     let rs = nnf_records b (length b / 24) in
-    refused_or (nnf_refusal nodes b out) (λ r. Nnf.Refused r leaving out) (Nnf.Records (length rs) leaving sets out 0 (records_bytes rs))
+    refused_or (nnf_refusal nodes b out) (λ r. Err r leaving out) (Ok (length rs) leaving sets out 0 (records_bytes rs))

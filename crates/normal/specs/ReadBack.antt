@@ -1,5 +1,5 @@
 -- What `to_nnf` writes, read again, is the normal form of the constraint that was given. Assumes nothing.
-use Rattle.std.specs.Prelude.{ℕ, ◌+◌, ◌*◌, ◌-◌, ◌/◌, ◌%◌, ◌≤◌, ◌≡◌, true, ◌&&◌, List, [], ◌++◌, take, drop}
+use Rattle.std.specs.Prelude.{ℕ, ◌+◌, ◌*◌, ◌-◌, ◌/◌, ◌%◌, ◌≤◌, ◌≡◌, true, ◌&&◌, Ok, List, [], ◌++◌, take, drop}
 use Rattle.std.proofs.Common.{sym, ◌∙◌, arith}
 use Rattle.std.proofs.Math.Path.{ap}
 use borrow.Author.Tests.{leb-true, le-leb}
@@ -10,6 +10,7 @@ use Rattle.std.proofs.Math.Seq.{take-append_seam}
 use Rattle.record.specs.Leaving.{◌leaving◌, same_answer, same_places}
 use Rattle.record.specs.RefusalLaws.{both, none_both, none_unless, not_refused}
 use Rattle.tree.specs.Nodes.{tree_at}
+use Rattle.tree.specs.CanonicalLaws.{refused_at}
 use Rattle.constraint.specs.declared.Record.{Record}
 use Rattle.constraint.specs.Constraint.{Formula, Constraint, levels, quantifiers}
 use Rattle.constraint.specs.Records.{formula_at, constraint_at, records_refusal}
@@ -24,7 +25,6 @@ use Rattle.normal.specs.NormalForm.{to_nnf}
 use Rattle.normal.specs.NormalLaws.{nnf_map, nnf_levels, nnf_quantifiers, nnf_fitting}
 use Rattle.normal.specs.Given.{nnf_records, nnf_refusal, to_nnf_given}
 use Rattle.normal.specs.Counting.{kept_few, nnf_count}
-use Rattle.normal.specs.declared.Nnf.{Nnf}
 
 -- ---- the records of the normal form of what accepted records leave
 module _ (nodes b : List ℕ) (e : given_refusal nodes b ≡ 0) where
@@ -105,9 +105,6 @@ module _ (nodes b : List ℕ) (e : given_refusal nodes b ≡ 0) where
   read_again = given_is nodes new accepted ∙ rw (length_new, formula_is, nnf_map (tree_at nodes) c)
 
 -- ---- what a caller receives: the first m records of the output
-refused_records : {x y : List ℕ} {r m : ℕ} → (Nnf.Refused r leaving x) ≡ (Nnf.Records m leaving y) → ⊥
-refused_records e = let z : ◌≡◌ {A = ℕ} 0 1 = cc (same_answer e) in omega arith
-
 module _ (nodes b out : List ℕ) where
   no_refusal : nnf_refusal nodes b out ≡ 0 → (given_refusal nodes b ≡ 0) × (24 * length (nnf_records b (length b / 24)) ≤ length out)
   unfolding nnf_refusal
@@ -123,11 +120,11 @@ module _ (nodes b out : List ℕ) where
       ∙ take-append_seam (records_bytes rs) (drop (0 + length (records_bytes rs)) out)
 
   -- records that say c, and the records that the call wrote for them
-  pub reads_back : (c : Constraint) (m : ℕ) (o : List ℕ) → read_given nodes b ≡ Accepted c [] → to_nnf_given nodes b out ≡ (Nnf.Records m leaving o) →
+  pub reads_back : (c : Constraint) (m : ℕ) (o : List ℕ) → read_given nodes b ≡ Accepted c [] → to_nnf_given nodes b out ≡ (Ok m leaving o) →
       read_given nodes (take (24 * m) o) ≡ Accepted (to_nnf c) []
   unfolding to_nnf_given
   reads_back c m o r e =
-      let w = not_refused (nnf_refusal nodes b out) _ _ (λ r. refused_records) e in
+      let w = not_refused (nnf_refusal nodes b out) _ _ (λ r. refused_at) e in
       let count : length (nnf_records b (length b / 24)) ≡ m = cc (same_answer w.1) in
       let f = no_refusal w.0 in
       let k : left nodes b (length b / 24) ≡ c = cc (given_is nodes b f.0, r) in

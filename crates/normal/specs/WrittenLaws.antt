@@ -9,7 +9,6 @@ use Rattle.constraint.specs.FormulaLaws.{number_gather}
 use Rattle.normal.specs.NormalForm.{to_nnf, negate, to_nnf_all, negate_all}
 use Rattle.normal.specs.NormalLaws.{number_nnf, number_negation}
 use Rattle.normal.specs.Written.{dual_of}
-use Rattle.normal.specs.Given.{kept_of}
 
 -- ---- one that is taken
 nnf_one : (cs : List (Formula ℕ)) → length cs ≡ 1 → records_of (to_nnf (get_or cs 0 none)) ≡ records_of_all (to_nnf_all (gather cs))
@@ -25,7 +24,7 @@ negation_one (c ∷ []) l = sym (append-nil (records_of (negate c)))
 negation_one (c ∷ d ∷ cs) l = absurd (omega arith)
 
 -- ---- what record x finishes from cs, where x is no Not
-pub nnf_finish : (x : Record) (cs : List (Formula ℕ)) → length cs ≡ takes x → (kept_of x ≡ 0 → ⊥) → records_of (to_nnf (finish x cs)) ≡ records_of_all (to_nnf_all (gather cs)) ++ x ∷ []
+pub nnf_finish : (x : Record) (cs : List (Formula ℕ)) → length cs ≡ takes x → (x ≡ Record.Not → ⊥) → records_of (to_nnf (finish x cs)) ≡ records_of_all (to_nnf_all (gather cs)) ++ x ∷ []
 unfolding records_of to_nnf finish gather
 nnf_finish (Record.Atom rel i) [] l h = refl
 nnf_finish (Record.Atom rel i) (c ∷ cs) l h = absurd (omega arith)
@@ -35,7 +34,7 @@ nnf_finish (Record.Or m) cs l h = ap (λ (n : ℕ). records_of_all (to_nnf_all (
 nnf_finish (Record.ForAll v lo hi) cs l h = ap (λ (rs : List Record). rs ++ Record.ForAll v lo hi ∷ []) (nnf_one cs l)
 nnf_finish (Record.Exists v lo hi) cs l h = ap (λ (rs : List Record). rs ++ Record.Exists v lo hi ∷ []) (nnf_one cs l)
 
-pub negation_finish : (x : Record) (cs : List (Formula ℕ)) → length cs ≡ takes x → (kept_of x ≡ 0 → ⊥) → records_of (negate (finish x cs)) ≡ records_of_all (negate_all (gather cs)) ++ dual_of x ∷ []
+pub negation_finish : (x : Record) (cs : List (Formula ℕ)) → length cs ≡ takes x → (x ≡ Record.Not → ⊥) → records_of (negate (finish x cs)) ≡ records_of_all (negate_all (gather cs)) ++ dual_of x ∷ []
 unfolding records_of to_nnf finish gather
 negation_finish (Record.Atom rel i) [] l h = refl
 negation_finish (Record.Atom rel i) (c ∷ cs) l h = absurd (omega arith)

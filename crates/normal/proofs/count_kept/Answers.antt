@@ -8,14 +8,14 @@ use Rattle.normal.proofs.count_kept.Goals as goal
 
 pub loop-k-init : goal.loop-k-init
 unfolding count_kept
-loop-k-init c = (omega arith, omega arith, refl)
-
-pub overflow_add-count : goal.overflow_add-count
-overflow_add-count c = omega (arith, c.kept_of-count.ensures.1)
+loop-k-init c = (omega arith, refl)
 
 pub loop-k-preserved : goal.loop-k-preserved
 loop-k-preserved c =
-    (omega arith, omega (arith, c.kept_of-count.ensures.1), kept_next _ _ c.loop-k.invariant.2 c.record_in.ensures c.kept_of-count.ensures.0)
+    (omega (arith, c.kept_of-count.ensures.1), kept_next _ _ c.loop-k.invariant.1 c.record_in.ensures c.kept_of-count.ensures.0)
 
 pub returns : goal.returns
-returns c = c.loop-k.invariant.2 ∙ ap (count_kept _) (le_antisymm c.loop-k.invariant.0 c.loop-k-test.false)
+returns c = (
+  c.loop-k.invariant.1 ∙ ap (count_kept _) (le_antisymm c.loop-k.auto.k-end c.loop-k-test.false),
+  omega (arith, c.args.records.now.ready.few),
+)
