@@ -1,36 +1,36 @@
 // Decisions about a variable in a range, on records. A refusal leaves the lent places as they were.
-ghost use Rattle.std.specs.Prelude.{◌≡◌, ◌≤◌, length};
+ghost use Rattle.std.specs.Prelude.{◌≤◌, length, IfOk};
 ghost use Rattle.settings.specs.Settings.{usual};
-ghost use Rattle.decide.specs.Deciding.{verdict_number, decide_forall_given, decide_exists_given};
+ghost use Rattle.decide.specs.Deciding.{point_of, decide_forall_given, decide_exists_given};
+ghost use Rattle.decide.specs.Views.{result_of, answered};
 ghost use Rattle.record.specs.Views.{old};
 ghost use Rattle.eml.specs.Places.{Decides};
 
-use crate::values::write_point;
-use decide::{Decided, Verdict};
+use crate::answers::put_point;
+use decide::Verdict;
+use record::Refusal;
 
-fn verdict_number(verdict: Verdict) -> u8
-    ensures { result ≡ verdict_number verdict }
+fn put_decided(
+    answer: Result<Verdict, Refusal>,
+    verdict: &mut u8,
+    count: &mut usize,
+    point: &mut [f64],
+) -> u8
+    requires { IfOk answer (λ v. length (point_of (result_of v)) ≤ length point.old) }
+    ensures { Decides verdict count point result (answered answer) }
 {
-    match verdict {
-        Verdict::True => 0,
-        Verdict::TrueWithWitness => 1,
-        Verdict::FalseWithCounterexample => 2,
-        Verdict::Unknown => 3,
+    let v = match answer {
+        Ok(v) => v,
+        Err(refusal) => return refusal.into(),
+    };
+    *verdict = v.into();
+    match v {
+        Verdict::TrueWithWitness(values) | Verdict::FalseWithCounterexample(values) => {
+            *count = values.count;
+            put_point(&values, point);
+        }
+        Verdict::True | Verdict::Unknown => *count = 0,
     }
-}
-
-fn write_decided(answer: Decided, verdict: &mut u8, count: &mut usize, point: &mut [f64]) -> u8
-    requires { (answer.count ≤ 16) × (answer.count ≤ length point.old) }
-    ensures { Decides verdict count point result answer }
-{
-    if answer.refusal != 0 {
-        return answer.refusal;
-    }
-    let v = answer.verdict;
-    let values = answer.point;
-    *verdict = verdict_number(v);
-    *count = answer.count;
-    write_point(values, answer.count, point);
     0
 }
 
@@ -50,7 +50,7 @@ pub fn eml_decide_forall(
     ensures { Decides verdict count point result (decide_forall_given usual nodes.now constraints.now var lo hi num_vars (length (old point))) }
 {
     let answer = decide::decide_forall(nodes, constraints, var, lo, hi, num_vars, point.len());
-    write_decided(answer, verdict, count, point)
+    put_decided(answer, verdict, count, point)
 }
 
 // Whether it holds for some value; the point is the witness.
@@ -68,5 +68,5 @@ pub fn eml_decide_exists(
     ensures { Decides verdict count point result (decide_exists_given usual nodes.now constraints.now var lo hi num_vars (length (old point))) }
 {
     let answer = decide::decide_exists(nodes, constraints, var, lo, hi, num_vars, point.len());
-    write_decided(answer, verdict, count, point)
+    put_decided(answer, verdict, count, point)
 }

@@ -2,6 +2,7 @@
 // function behind it is proved to do. A call that can refuse returns document 01's number, or 0, and a refusal writes nothing.
 #![tactic(auto)]
 
+mod answers;
 pub mod canonical;
 pub mod deciding;
 pub mod domains;
@@ -12,4 +13,3 @@ pub mod normal_form;
 pub mod points;
 pub mod reading;
 pub mod solving;
-mod values;

@@ -1,34 +1,26 @@
 // Narrowing, on records and boxes as two lists of ends, or as a list of intervals.
 ghost use Rattle.std.specs.Prelude.{◌≡◌};
 ghost use Rattle.record.specs.Leaving.{◌leaving◌};
+ghost use Rattle.record.specs.Refused.{numbered};
 ghost use Rattle.settings.specs.Settings.{usual};
-ghost use Rattle.narrow.specs.Given.{result_number, propagate_given};
+ghost use Rattle.narrow.specs.Given.{propagate_given};
 ghost use Rattle.lent.specs.Lent.{propagate_lent};
 ghost use Rattle.record.specs.Views.{old, final};
 ghost use Rattle.eml.specs.Answers.{writing, propagated};
 
 use interval::Interval;
-use narrow::{PropResult, Propagated};
+use narrow::PropResult;
+use record::Refusal;
 
-fn result_number(res: PropResult) -> u8
-    ensures { result ≡ result_number res }
+fn put_result(answer: Result<PropResult, Refusal>, place: &mut u8) -> u8
+    ensures { (result leaving final place) ≡ propagated (numbered answer) (old place) }
 {
-    match res {
-        PropResult::Changed => 0,
-        PropResult::Stable => 1,
-        PropResult::Conflict => 2,
-    }
-}
-
-fn write_propagated(x: Propagated, answer: &mut u8) -> u8
-    ensures { (result leaving final answer) ≡ propagated x (old answer) }
-{
-    match x {
-        Propagated::Refused(number) => number,
-        Propagated::Answered(result) => {
-            *answer = result_number(result);
+    match answer {
+        Ok(result) => {
+            *place = result.into();
             0
         }
+        Err(refusal) => refusal.into(),
     }
 }
 
@@ -42,8 +34,7 @@ pub fn eml_propagate(
 ) -> u8
     ensures { (result leaving (final answer, (final lo, final hi))) ≡ writing propagated (propagate_given usual nodes.now constraints.now (old lo) (old hi)) (old answer) }
 {
-    let x = narrow::propagate_given(nodes, constraints, lo, hi);
-    write_propagated(x, answer)
+    put_result(narrow::propagate_given(nodes, constraints, lo, hi), answer)
 }
 
 // The same on the caller's own list of intervals.
@@ -55,6 +46,5 @@ pub fn eml_propagate_intervals(
 ) -> u8
     ensures { (result leaving (final answer, final boxes)) ≡ writing propagated (propagate_lent usual nodes.now constraints.now (old boxes)) (old answer) }
 {
-    let x = lent::propagate(nodes, constraints, boxes);
-    write_propagated(x, answer)
+    put_result(lent::propagate(nodes, constraints, boxes), answer)
 }

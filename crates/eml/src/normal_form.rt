@@ -3,19 +3,13 @@ ghost use Rattle.std.specs.Prelude.{◌≡◌};
 ghost use Rattle.record.specs.Leaving.{◌leaving◌};
 ghost use Rattle.normal.specs.Given.{to_nnf_given};
 ghost use Rattle.record.specs.Views.{old, final};
-ghost use Rattle.eml.specs.Answers.{writing, normalised};
+ghost use Rattle.eml.specs.Answers.{writing, placed};
 
-use normal::Nnf;
+use crate::answers::put;
 
 // Writes the records of the normal form into `out` and their number into `records`; a refusal leaves both as they were.
 pub fn eml_to_nnf(nodes: &[u8], constraints: &[u8], out: &mut [u8], records: &mut usize) -> u8
-    ensures { (result leaving (final records, final out)) ≡ writing normalised (to_nnf_given nodes.now constraints.now (old out)) (old records) }
+    ensures { (result leaving (final records, final out)) ≡ writing placed (to_nnf_given nodes.now constraints.now (old out)) (old records) }
 {
-    match normal::to_nnf_given(nodes, constraints, out) {
-        Nnf::Refused(number) => number,
-        Nnf::Records(n) => {
-            *records = n;
-            0
-        }
-    }
+    put(normal::to_nnf_given(nodes, constraints, out), records)
 }

@@ -4,35 +4,23 @@ ghost use Rattle.record.specs.Leaving.{◌leaving◌};
 ghost use Rattle.settings.specs.Settings.{usual};
 ghost use Rattle.point.specs.Answer.{eval_answer, check_answer, residual_answer};
 ghost use Rattle.record.specs.Views.{old, final};
-ghost use Rattle.eml.specs.Answers.{checked, measured, failed, evaluated, evaluation_before, evaluation_after};
+ghost use Rattle.eml.specs.Answers.{placed, failed, evaluated, evaluation_before, evaluation_after};
 
+use crate::answers::put;
 use point::eval::EvalError;
-use point::{CheckAnswer, EvalAnswer, ResidualAnswer};
 
 // Whether the point passes the check, to `passes`.
 pub fn eml_check(nodes: &[u8], constraints: &[u8], point: &[f64], passes: &mut bool) -> u8
-    ensures { (result leaving final passes) ≡ checked (check_answer usual nodes.now constraints.now point.now) (old passes) }
+    ensures { (result leaving final passes) ≡ placed (check_answer usual nodes.now constraints.now point.now) (old passes) }
 {
-    match point::check_constraint(nodes, constraints, point) {
-        CheckAnswer::Refused(number) => number,
-        CheckAnswer::Checked(b) => {
-            *passes = b;
-            0
-        }
-    }
+    put(point::check_constraint(nodes, constraints, point), passes)
 }
 
 // The point's residual, to `out`.
 pub fn eml_residual(nodes: &[u8], constraints: &[u8], point: &[f64], out: &mut f64) -> u8
-    ensures { (result leaving final out) ≡ measured (residual_answer usual nodes.now constraints.now point.now) (old out) }
+    ensures { (result leaving final out) ≡ placed (residual_answer usual nodes.now constraints.now point.now) (old out) }
 {
-    match point::residual(nodes, constraints, point) {
-        ResidualAnswer::Refused(number) => number,
-        ResidualAnswer::Residual(x) => {
-            *out = x;
-            0
-        }
-    }
+    put(point::residual(nodes, constraints, point), out)
 }
 
 fn write_error(
@@ -78,15 +66,15 @@ pub fn eml_eval_real(
     ensures { (result leaving evaluation_after kind value index count) ≡ evaluated (eval_answer usual nodes.now node point.now) (evaluation_before kind value index count) }
 {
     match point::eval_real(nodes, node, point) {
-        EvalAnswer::Refused(number) => number,
-        EvalAnswer::Value(x) => {
+        Ok(Ok(x)) => {
             *kind = 0;
             *value = x;
             0
         }
-        EvalAnswer::Failed(error) => {
+        Ok(Err(error)) => {
             write_error(error, kind, value, index, count);
             0
         }
+        Err(refusal) => refusal.into(),
     }
 }

@@ -1,15 +1,16 @@
 // Solving, of a file and of records with bounds.
-ghost use Rattle.std.specs.Prelude.{◌≤◌, length};
+ghost use Rattle.std.specs.Prelude.{◌≤◌, length, IfOk};
 ghost use Rattle.settings.specs.Settings.{usual};
 ghost use Rattle.nra.specs.Calls.{solve_file, solve_given};
 ghost use Rattle.record.specs.Views.{old};
 ghost use Rattle.eml.specs.Places.{Solves};
 
-use crate::values::write_point;
+use crate::answers::put_point;
 use nra::answer::Solved;
+use record::Refusal;
 
-fn write_solved(
-    s: Solved,
+fn put_solved(
+    answer: Result<Solved, Refusal>,
     stop: &mut u8,
     exact: &mut bool,
     residual: &mut f64,
@@ -17,20 +18,37 @@ fn write_solved(
     count: &mut usize,
     point: &mut [f64],
 ) -> u8
-    requires { (s.count ≤ length s.point) × (s.count ≤ length point.old) }
-    ensures { Solves stop exact residual halvings count point result s }
+    requires { IfOk answer (λ s. length (point_of (answer_of s)) ≤ length point.old) }
+    ensures { Solves stop exact residual halvings count point result (answered answer) }
 {
-    if s.refusal != 0 {
-        return s.refusal;
+    let solved = match answer {
+        Ok(solved) => solved,
+        Err(refusal) => return refusal.into(),
+    };
+    *stop = solved.stop_number();
+    match solved {
+        Solved::Assignment {
+            point: values,
+            exact: is_exact,
+            halvings: made,
+        } => {
+            *exact = is_exact;
+            *residual = 0.0;
+            *halvings = made;
+            *count = values.count;
+            put_point(&values, point);
+        }
+        Solved::Failed {
+            residual: left,
+            halvings: made,
+            ..
+        } => {
+            *exact = false;
+            *residual = left;
+            *halvings = made;
+            *count = 0;
+        }
     }
-    let word = s.stop;
-    let values = s.point;
-    *stop = nra::answer::stop_number(word);
-    *exact = s.exact;
-    *residual = s.residual;
-    *halvings = s.halvings;
-    *count = s.count;
-    write_point(values, s.count, point);
     0
 }
 
@@ -49,8 +67,8 @@ pub fn eml_solve_file(
 ) -> u8
     ensures { Solves stop exact residual halvings count point result (solve_file usual file.now limit tolerance (length (old point))) }
 {
-    let s = nra::solve_file(file, limit, tolerance, point.len());
-    write_solved(s, stop, exact, residual, halvings, count, point)
+    let answer = nra::solve_file(file, limit, tolerance, point.len());
+    put_solved(answer, stop, exact, residual, halvings, count, point)
 }
 
 // Solves records with bounds, and answers as `eml_solve_file` does.
@@ -70,6 +88,6 @@ pub fn eml_solve(
 ) -> u8
     ensures { Solves stop exact residual halvings count point result (solve_given usual nodes.now constraints.now lo.now hi.now limit tolerance (length (old point))) }
 {
-    let s = nra::solve(nodes, constraints, lo, hi, limit, tolerance, point.len());
-    write_solved(s, stop, exact, residual, halvings, count, point)
+    let answer = nra::solve(nodes, constraints, lo, hi, limit, tolerance, point.len());
+    put_solved(answer, stop, exact, residual, halvings, count, point)
 }

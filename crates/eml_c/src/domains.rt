@@ -3,6 +3,7 @@ ghost use Rattle.std.specs.Prelude.{◌≡◌};
 ghost use Rattle.interval.specs.Domain.{domain_new, domain_is_empty};
 ghost use Rattle.record.specs.Leaving.{◌leaving◌};
 ghost use Rattle.record.specs.Views.{old, final};
+ghost use Rattle.eml.specs.Answers.{placed};
 
 #[unsafe(no_mangle)]
 pub extern "C" fn eml_domain_new(
@@ -19,7 +20,7 @@ pub extern "C" fn eml_domain_new(
 
 #[unsafe(no_mangle)]
 pub extern "C" fn eml_domain_is_empty(lo: &[f64], hi: &[f64], out: &mut bool) -> u8
-    ensures { (result leaving final out) ≡ domain_is_empty lo.now hi.now (old out) }
+    ensures { (result leaving final out) ≡ placed (domain_is_empty lo.now hi.now) (old out) }
 {
     eml::domains::eml_domain_is_empty(lo, hi, out)
 }

@@ -3,7 +3,7 @@ ghost use Rattle.std.specs.Prelude.{◌≡◌};
 ghost use Rattle.record.specs.Leaving.{◌leaving◌};
 ghost use Rattle.normal.specs.Given.{to_nnf_given};
 ghost use Rattle.record.specs.Views.{old, final};
-ghost use Rattle.eml.specs.Answers.{writing, normalised};
+ghost use Rattle.eml.specs.Answers.{writing, placed};
 
 #[unsafe(no_mangle)]
 pub extern "C" fn eml_to_nnf(
@@ -12,7 +12,7 @@ pub extern "C" fn eml_to_nnf(
     out: &mut [u8],
     records: &mut usize,
 ) -> u8
-    ensures { (result leaving (final records, final out)) ≡ writing normalised (to_nnf_given nodes.now constraints.now (old out)) (old records) }
+    ensures { (result leaving (final records, final out)) ≡ writing placed (to_nnf_given nodes.now constraints.now (old out)) (old records) }
 {
     eml::normal_form::eml_to_nnf(nodes, constraints, out, records)
 }

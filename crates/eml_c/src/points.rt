@@ -4,7 +4,7 @@ ghost use Rattle.record.specs.Leaving.{◌leaving◌};
 ghost use Rattle.settings.specs.Settings.{usual};
 ghost use Rattle.point.specs.Answer.{eval_answer, check_answer, residual_answer};
 ghost use Rattle.record.specs.Views.{old, final};
-ghost use Rattle.eml.specs.Answers.{checked, measured, failed, evaluated, evaluation_before, evaluation_after};
+ghost use Rattle.eml.specs.Answers.{placed, failed, evaluated, evaluation_before, evaluation_after};
 
 #[unsafe(no_mangle)]
 pub extern "C" fn eml_check(
@@ -13,14 +13,14 @@ pub extern "C" fn eml_check(
     point: &[f64],
     passes: &mut bool,
 ) -> u8
-    ensures { (result leaving final passes) ≡ checked (check_answer usual nodes.now constraints.now point.now) (old passes) }
+    ensures { (result leaving final passes) ≡ placed (check_answer usual nodes.now constraints.now point.now) (old passes) }
 {
     eml::points::eml_check(nodes, constraints, point, passes)
 }
 
 #[unsafe(no_mangle)]
 pub extern "C" fn eml_residual(nodes: &[u8], constraints: &[u8], point: &[f64], out: &mut f64) -> u8
-    ensures { (result leaving final out) ≡ measured (residual_answer usual nodes.now constraints.now point.now) (old out) }
+    ensures { (result leaving final out) ≡ placed (residual_answer usual nodes.now constraints.now point.now) (old out) }
 {
     eml::points::eml_residual(nodes, constraints, point, out)
 }

@@ -1,5 +1,5 @@
 -- Document 01, "Halving": "The count of halvings is carried in the result: halves written, also before a conflict; at most the limit." Of the
--- definition, for any settings σ and every limit L, 0 included; and of what the calls return, refused or not. Assumes nothing.
+-- definition, for any settings σ and every limit L, 0 included; and of what the calls return: a refusal has no count. Assumes nothing.
 use Rattle.std.specs.Prelude.{◌≡◌, ℕ, ◌≤◌, true, List, Float}
 use Rattle.settings.specs.declared.Settings.{Settings}
 use Rattle.interval.specs.declared.Interval.{Interval}

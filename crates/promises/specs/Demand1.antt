@@ -4,9 +4,9 @@
 -- place is as it was. (eml_read and eml_read_records return the number and write nothing; the methods of an interval and the functions refuse nothing.)
 -- For any settings σ. Assumes nothing.
 use Prim.Native.Nat.{ℕ, zero, suc}
-use Rattle.std.specs.Prelude.{◌≡◌, Bool, ◌&&◌, List, [], leb, Float, length}
+use Rattle.std.specs.Prelude.{◌≡◌, Bool, ◌&&◌, List, [], leb, Float, length, Result, Ok, Err}
 use Rattle.std.proofs.Math.Path.{refl}
-use Rattle.std.proofs.Common.{subst}
+use Rattle.std.proofs.Common.{sym}
 use Rattle.std.proofs.Math.Bool.{true, false}
 use Rattle.settings.specs.declared.Settings.{Settings}
 use Rattle.record.specs.Leaving.{Leaving, ◌leaving◌, same_answer, same_places}
@@ -14,34 +14,25 @@ use Rattle.record.specs.Refusal.{◌or_else◌, ◌unless◌, refused_or}
 use Rattle.interval.specs.declared.Interval.{Interval}
 use Rattle.interval.specs.Boxes.{are_paired, are_boxes, all_sound}
 use Rattle.interval.specs.Domain.{domain_refusal, domain_new, domain_is_empty}
-use Rattle.tree.specs.declared.Appended.{Appended}
 use Rattle.tree.specs.Canonical.{ln, sub, ln_refusal, sub_refusal}
 use Rattle.constraint.specs.declared.Relation.{Relation}
 use Rattle.constraint.specs.Constraint.{Constraint, num_vars}
 use Rattle.constraint.specs.Comparison.{compared, compare_refusal}
 use Rattle.file.specs.File.{Read, Accepted, refusal, given_refusal, read_by, read_file, read_given}
 use Rattle.file.specs.Answer.{answered}
-use Rattle.point.specs.declared.EvalAnswer.{EvalAnswer}
-use Rattle.point.specs.declared.CheckAnswer.{CheckAnswer}
-use Rattle.point.specs.declared.ResidualAnswer.{ResidualAnswer}
-use Rattle.point.specs.declared.eval.Evaluated.{Evaluated}
+use Rattle.point.specs.declared.eval.EvalError.{EvalError}
 use Rattle.tree.specs.Nodes.{tree_at}
 use Rattle.point.specs.Eval.{eval_real}
-use Rattle.point.specs.Answer.{eval_refusal, eval_answered, eval_answer, point_refusal, check_answer, residual_answer}
-use Rattle.normal.specs.declared.Nnf.{Nnf}
+use Rattle.point.specs.Answer.{eval_refusal, eval_answer, point_refusal, check_answer, residual_answer}
 use Rattle.normal.specs.Given.{nnf_refusal, to_nnf_given}
 use Rattle.narrow.specs.declared.PropResult.{PropResult}
-use Rattle.narrow.specs.declared.Propagated.{Propagated}
 use Rattle.narrow.specs.Given.{tested, propagate_given}
 use Rattle.lent.specs.Lent.{propagate_lent}
-use Rattle.nra.specs.declared.answer.Solved.{Solved}
-use Rattle.nra.specs.Solver.{Answer as Reached, assignment, failed}
-use Rattle.nra.specs.Answers.{solved_of, refused_with}
+use Rattle.nra.specs.Solver.{Answer as Reached}
 use Rattle.nra.specs.Calls.{limit_refusal, boxes_refusal, room_refusal, answered_by, solve_file, solve_given}
-use Rattle.decide.specs.declared.Decided.{Decided}
-use Rattle.decide.specs.Deciding.{QuantResult, decided_of, later_refusal, decided_by, decide_forall_given, decide_exists_given}
-use Rattle.eml.specs.Answers.{writing, valued, appended, checked, measured, Evaluation, evaluated, propagated, normalised}
-use Rattle.eml.specs.Places.{Solution, solved, Decision, decided, unless_refused}
+use Rattle.decide.specs.Deciding.{QuantResult, later_refusal, decided_by, decide_forall_given, decide_exists_given}
+use Rattle.eml.specs.Answers.{number_of, placed, writing, appended, Evaluation, evaluated, propagated}
+use Rattle.eml.specs.Places.{Solution, solved, Decision, decided}
 use Rattle.promises.specs.Accepted.{file_problem, given_problem}
 
 -- r is the number of the first test that fails, or 0; w is what a call returns and leaves in places that held `old`
@@ -56,56 +47,56 @@ module _ {A B : Type 0} (f : A → Leaving ℕ B) (old : B) (refused : ℕ → A
   refuses (suc r) = record { number = same_answer (returned (suc r)); unaltered = λ n. same_places (returned (suc r)) }
 
 -- ---- eml_num_vars and eml_num_vars_records
-reads : (r : ℕ) (c : Constraint) (bs : List Interval) (old : ℕ) → Refuses r old (valued (answered num_vars (read_by r (Accepted c bs))) old)
-reads r c bs old = refuses (λ x. valued (answered num_vars x) old) old Read.Refused (Accepted c bs) (λ n. refl) refl r
+reads : (r : ℕ) (c : Constraint) (bs : List Interval) (old : ℕ) → Refuses r old (placed (answered num_vars (read_by r (Accepted c bs))) old)
+reads r c bs old = refuses (λ x. placed (answered num_vars x) old) old Read.Refused (Accepted c bs) (λ n. refl) refl r
 
-pub num_vars_lem : (file : List ℕ) (old : ℕ) → Refuses (refusal file) old (valued (answered num_vars (read_file file)) old)
+pub num_vars_lem : (file : List ℕ) (old : ℕ) → Refuses (refusal file) old (placed (answered num_vars (read_file file)) old)
 unfolding read_file
 num_vars_lem file old = reads (refusal file) _ _ old
 
-pub num_vars_records : (nodes b : List ℕ) (old : ℕ) → Refuses (given_refusal nodes b) old (valued (answered num_vars (read_given nodes b)) old)
+pub num_vars_records : (nodes b : List ℕ) (old : ℕ) → Refuses (given_refusal nodes b) old (placed (answered num_vars (read_given nodes b)) old)
 unfolding read_given
 num_vars_records nodes b old = reads (given_refusal nodes b) _ _ old
 
 -- ---- eml_canonical_ln and eml_canonical_sub; eml_lt, eml_le, eml_gt and eml_ge
 pub ln_refuses : (nodes : List ℕ) (n x : ℕ) → Refuses (ln_refusal nodes n x) nodes (appended (ln nodes n x))
 unfolding ln
-ln_refuses nodes n x = refuses appended nodes (λ r. Appended.Refused r leaving nodes) _ (λ r. refl) refl (ln_refusal nodes n x)
+ln_refuses nodes n x = refuses appended nodes (λ r. Err r leaving nodes) _ (λ r. refl) refl (ln_refusal nodes n x)
 
 pub sub_refuses : (nodes : List ℕ) (n x y : ℕ) → Refuses (sub_refusal nodes n x y) nodes (appended (sub nodes n x y))
 unfolding sub
-sub_refuses nodes n x y = refuses appended nodes (λ r. Appended.Refused r leaving nodes) _ (λ r. refl) refl (sub_refusal nodes n x y)
+sub_refuses nodes n x y = refuses appended nodes (λ r. Err r leaving nodes) _ (λ r. refl) refl (sub_refusal nodes n x y)
 
 pub compare_refuses : (rel : Relation) (nodes : List ℕ) (n x y : ℕ) (out : List ℕ) → Refuses (compare_refusal nodes n x y out) (nodes, out) (appended (compared rel nodes n x y out))
 unfolding compared
-compare_refuses rel nodes n x y out = refuses appended (nodes, out) (λ r. Appended.Refused r leaving (nodes, out)) _ (λ r. refl) refl (compare_refusal nodes n x y out)
+compare_refuses rel nodes n x y out = refuses appended (nodes, out) (λ r. Err r leaving (nodes, out)) _ (λ r. refl) refl (compare_refusal nodes n x y out)
 
 -- ---- eml_eval_real, eml_check and eml_residual
 pub eval_refuses : (σ : Settings) (nodes : List ℕ) (k : ℕ) (p : List Float) (old : Evaluation) → Refuses (eval_refusal nodes k p) old (evaluated (eval_answer σ nodes k p) old)
 unfolding eval_answer
-eval_refuses σ nodes k p old = refuses (λ x. evaluated x old) old EvalAnswer.Refused _ (λ r. refl) (none (eval_real σ p (tree_at nodes k))) (eval_refusal nodes k p)
+eval_refuses σ nodes k p old = refuses (λ x. evaluated x old) old Err _ (λ r. refl) (none (eval_real σ p (tree_at nodes k))) (eval_refusal nodes k p)
   where
-    none : (e : Evaluated) → (evaluated (eval_answered e) old).answer ≡ 0
-    none (Evaluated.Value v) = refl
-    none (Evaluated.Failed e) = refl
+    none : (e : Result Float EvalError) → (evaluated (Ok e) old).answer ≡ 0
+    none (Ok v) = refl
+    none (Err e) = refl
 
-pub check_refuses : (σ : Settings) (nodes b : List ℕ) (p : List Float) (old : Bool) → Refuses (point_refusal nodes b p) old (checked (check_answer σ nodes b p) old)
+pub check_refuses : (σ : Settings) (nodes b : List ℕ) (p : List Float) (old : Bool) → Refuses (point_refusal nodes b p) old (placed (check_answer σ nodes b p) old)
 unfolding check_answer
-check_refuses σ nodes b p old = refuses (λ x. checked x old) old CheckAnswer.Refused _ (λ r. refl) refl (point_refusal nodes b p)
+check_refuses σ nodes b p old = refuses (λ x. placed x old) old Err _ (λ r. refl) refl (point_refusal nodes b p)
 
-pub residual_refuses : (σ : Settings) (nodes b : List ℕ) (p : List Float) (old : Float) → Refuses (point_refusal nodes b p) old (measured (residual_answer σ nodes b p) old)
+pub residual_refuses : (σ : Settings) (nodes b : List ℕ) (p : List Float) (old : Float) → Refuses (point_refusal nodes b p) old (placed (residual_answer σ nodes b p) old)
 unfolding residual_answer
-residual_refuses σ nodes b p old = refuses (λ x. measured x old) old ResidualAnswer.Refused _ (λ r. refl) refl (point_refusal nodes b p)
+residual_refuses σ nodes b p old = refuses (λ x. placed x old) old Err _ (λ r. refl) refl (point_refusal nodes b p)
 
 -- ---- eml_to_nnf
-pub nnf_refuses : (nodes b out : List ℕ) (old : ℕ) → Refuses (nnf_refusal nodes b out) (old, out) (writing normalised (to_nnf_given nodes b out) old)
+pub nnf_refuses : (nodes b out : List ℕ) (old : ℕ) → Refuses (nnf_refusal nodes b out) (old, out) (writing placed (to_nnf_given nodes b out) old)
 unfolding to_nnf_given
-nnf_refuses nodes b out old = refuses (λ x. writing normalised x old) (old, out) (λ r. Nnf.Refused r leaving out) _ (λ r. refl) refl (nnf_refusal nodes b out)
+nnf_refuses nodes b out old = refuses (λ x. writing placed x old) (old, out) (λ r. Err r leaving out) _ (λ r. refl) refl (nnf_refusal nodes b out)
 
 -- ---- eml_propagate and eml_propagate_intervals
 module _ {B : Type 0} (b : B) (answer : Constraint → PropResult) (left : Constraint → B) (old : ℕ) where
   propagate_refuses : (r : ℕ) (c : Constraint) (are : Bool)
-      → Refuses (r or_else 9 unless are) (old, b) (writing propagated (tested (read_by r (Accepted c [])) are b (λ c. Propagated.Answered (answer c) leaving left c)) old)
+      → Refuses (r or_else 9 unless are) (old, b) (writing propagated (tested (read_by r (Accepted c [])) are b (λ c. Ok (answer c) leaving left c)) old)
   unfolding tested
   propagate_refuses zero c false = record { number = refl; unaltered = λ n. refl }
   propagate_refuses zero c true = record { number = refl; unaltered = λ n. absurd (n refl) }
@@ -122,22 +113,18 @@ unfolding propagate_lent read_given
 intervals_refuse σ nodes constraints b old = propagate_refuses b _ _ old (given_refusal nodes constraints) _ (leb (length b) 16 && all_sound b)
 
 -- ---- eml_solve_file and eml_solve
-written : {B : Type 0} (new old : B) (r : ℕ) → Refuses r old (unless_refused r new old)
-written new old r = refuses (λ x. x) old (λ n. n leaving old) (0 leaving new) (λ n. refl) refl r
-
-later_refusal_lem : (m : ℕ) (a : Reached) → (refused_or m refused_with (solved_of a)).refusal ≡ m
-unfolding solved_of
-later_refusal_lem zero (assignment p exact h) = refl
-later_refusal_lem zero (failed w x h) = refl
+later_refusal_lem : {A : Type 0} (m : ℕ) (a : A) → number_of (refused_or m Err (Ok a)) ≡ m
+later_refusal_lem zero a = refl
 later_refusal_lem (suc m) a = refl
 
 solver_refusal : (r : ℕ) (c : Constraint) (bs : List Interval) (later : Constraint → ℕ) (answer : Constraint → List Interval → Reached)
-    → (answered_by (read_by r (Accepted c bs)) later answer).refusal ≡ (r or_else later c)
+    → number_of (answered_by (read_by r (Accepted c bs)) later answer) ≡ (r or_else later c)
 solver_refusal zero c bs later answer = later_refusal_lem (later c) (answer c bs)
 solver_refusal (suc r) c bs later answer = refl
 
-solver_refuses : (s : Solved) (old : Solution) (r : ℕ) → s.refusal ≡ r → Refuses r old (solved s old)
-solver_refuses s old r e = subst (λ (n : ℕ). Refuses n old (solved s old)) e (written _ old s.refusal)
+solver_refuses : (s : Result Reached ℕ) (old : Solution) (r : ℕ) → number_of s ≡ r → Refuses r old (solved s old)
+solver_refuses (Ok a) old r e = record { number = e; unaltered = λ n. absurd (n (sym e)) }
+solver_refuses (Err n) old r e = record { number = e; unaltered = λ n. refl }
 
 pub solve_file_refuses : (σ : Settings) (file : List ℕ) (limit : ℕ) (ε : Float) (old : Solution)
     → let room = length old.point in Refuses (refusal file or_else limit_refusal limit ε or_else room_refusal (file_problem file ε).constraint room) old (solved (solve_file σ file limit ε room) old)
@@ -152,13 +139,13 @@ unfolding solve_given read_given given_problem
 solve_refuses σ nodes b lo hi limit ε old = solver_refuses (solve_given σ nodes b lo hi limit ε (length old.point)) old _ (solver_refusal (given_refusal nodes b) _ _ _ _)
 
 -- ---- eml_decide_forall and eml_decide_exists
-decider_refusal : (r : ℕ) (c : Constraint) (later : ℕ) (decide : Constraint → QuantResult) → (decided_by (read_by r (Accepted c [])) later decide).refusal ≡ (r or_else later)
-decider_refusal zero c zero decide = unfold decided_of in refl
-decider_refusal zero c (suc m) decide = refl
+decider_refusal : (r : ℕ) (c : Constraint) (later : ℕ) (decide : Constraint → QuantResult) → number_of (decided_by (read_by r (Accepted c [])) later decide) ≡ (r or_else later)
+decider_refusal zero c later decide = later_refusal_lem later (decide c)
 decider_refusal (suc r) c later decide = refl
 
-decider_refuses : (d : Decided) (old : Decision) (r : ℕ) → d.refusal ≡ r → Refuses r old (decided d old)
-decider_refuses d old r e = subst (λ (n : ℕ). Refuses n old (decided d old)) e (written _ old d.refusal)
+decider_refuses : (d : Result QuantResult ℕ) (old : Decision) (r : ℕ) → number_of d ≡ r → Refuses r old (decided d old)
+decider_refuses (Ok q) old r e = record { number = e; unaltered = λ n. absurd (n (sym e)) }
+decider_refuses (Err n) old r e = record { number = e; unaltered = λ n. refl }
 
 module _ (σ : Settings) (nodes b : List ℕ) (v : ℕ) (lo hi : Float) (n : ℕ) (old : Decision) where
   pub forall_refuses : let room = length old.point in Refuses (given_refusal nodes b or_else later_refusal lo hi n room) old (decided (decide_forall_given σ nodes b v lo hi n room) old)
@@ -172,8 +159,8 @@ module _ (σ : Settings) (nodes b : List ℕ) (v : ℕ) (lo hi : Float) (n : ℕ
 -- ---- eml_domain_new and eml_domain_is_empty
 pub domain_new_refuses : (lo hi : List Float) (n : ℕ) (a b : List Float) → Refuses (domain_refusal lo hi n (length a) (length b)) (a, b) (domain_new lo hi n a b)
 unfolding domain_new
-domain_new_refuses lo hi n a b = written _ (a, b) (domain_refusal lo hi n (length a) (length b))
+domain_new_refuses lo hi n a b = refuses (λ x. x) (a, b) (λ r. r leaving (a, b)) _ (λ r. refl) refl (domain_refusal lo hi n (length a) (length b))
 
-pub domain_is_empty_refuses : (lo hi : List Float) (old : Bool) → Refuses (9 unless are_paired lo hi) old (domain_is_empty lo hi old)
+pub domain_is_empty_refuses : (lo hi : List Float) (old : Bool) → Refuses (9 unless are_paired lo hi) old (placed (domain_is_empty lo hi) old)
 unfolding domain_is_empty
-domain_is_empty_refuses lo hi old = written _ old (9 unless are_paired lo hi)
+domain_is_empty_refuses lo hi old = refuses (λ x. placed x old) old Err _ (λ r. refl) refl (9 unless are_paired lo hi)

@@ -1,6 +1,6 @@
 -- Demand 3, sentence by sentence in its order: each of the definitions, for any settings σ, and of what the calls return. Document 01, "The words of
 -- demand 3", says what the words mean. Assumes nothing.
-use Rattle.std.specs.Prelude.{◌≡◌, refl, ℕ, ◌≤◌, ◌<◌, Bool, true, false, ◌&&◌, List, leb, Float, length}
+use Rattle.std.specs.Prelude.{◌≡◌, refl, ℕ, ◌≤◌, ◌<◌, Bool, true, false, ◌&&◌, List, leb, Float, length, Ok}
 use Rattle.std.proofs.Common.{sym, ap, ◌∙◌, subst, leb-true, leb-false}
 use Rattle.std.proofs.lemmas.Bool.{false≢true}
 use Rattle.number.specs.Order.{passed}
@@ -17,12 +17,11 @@ use Rattle.narrow.specs.Given.{ends, answered, propagate_given}
 use Rattle.narrow.specs.Held.{ConstraintHeld}
 use Rattle.narrow.proofs.Promise.{propagate_keeps}
 use Rattle.lent.specs.Lent.{propagate_lent}
-use Rattle.nra.specs.declared.answer.Stop as Word
-use Rattle.nra.specs.Solver.{Problem, assignment, halvings_of, reached, solve}
+use Rattle.nra.specs.Solver.{Problem, Answer, assignment, halvings_of, reached, solve}
 use Rattle.nra.specs.Calls.{solve_file, solve_given}
 use Rattle.promises.specs.Limit.{raising_the_limit}
 use Rattle.promises.specs.Assignments.{Fair, InBox, starting_box, assignment_kept}
-use Rattle.promises.specs.Received.{values_of, Settled, settled, Passes, passing}
+use Rattle.promises.specs.Received.{Settled, settled, Passes, passing}
 use Rattle.promises.specs.Accepted.{file_problem, file_bounds, file_answer, file_fair, given_sound, given_problem, given_answer, given_fair}
 use Rattle.promises.specs.Kept.{Keeps, boxes_in, tested_keeps}
 
@@ -43,14 +42,12 @@ module _ (σ : Settings) (p : Problem) (bounds : List Interval) (L : ℕ) (some 
 
 -- Of what the calls return, under two accepted limits of at least 1, of which the first does not give "limit"; r and s are the places for a point:
 module _ (σ : Settings) (file : List ℕ) (ε : Float) (r s : ℕ) where
-  pub file_settled : (L M : ℕ) → (solve_file σ file L ε r).refusal ≡ 0 → (solve_file σ file M ε s).refusal ≡ 0 → 1 ≤ L → 1 ≤ M → ((solve_file σ file L ε r).stop ≡ Word.Stop.Limit → ⊥)
-      → Settled (solve_file σ file L ε r) M (solve_file σ file M ε s)
-  file_settled L M t u l k n = settled σ (file_problem file ε) (file_bounds file) L (file_answer σ file ε L r t) M (file_answer σ file ε M s u) l k n
+  pub file_settled : (L M : ℕ) (x y : Answer) → solve_file σ file L ε r ≡ Ok x → solve_file σ file M ε s ≡ Ok y → 1 ≤ L → 1 ≤ M → reached x ≡ false → Settled x M y
+  file_settled L M x y t u l k n = settled σ (file_problem file ε) (file_bounds file) L (file_answer σ file ε L r t) M (file_answer σ file ε M s u) l k n
 
 module _ (σ : Settings) (nodes b : List ℕ) (lo hi : List Float) (ε : Float) (r s : ℕ) where
-  pub given_settled : (L M : ℕ) → (solve_given σ nodes b lo hi L ε r).refusal ≡ 0 → (solve_given σ nodes b lo hi M ε s).refusal ≡ 0 → 1 ≤ L → 1 ≤ M → ((solve_given σ nodes b lo hi L ε r).stop ≡ Word.Stop.Limit → ⊥)
-      → Settled (solve_given σ nodes b lo hi L ε r) M (solve_given σ nodes b lo hi M ε s)
-  given_settled L M t u l k n = settled σ (given_problem nodes b ε) (intervals lo hi) L (given_answer σ nodes b lo hi ε L r t) M (given_answer σ nodes b lo hi ε M s u) l k n
+  pub given_settled : (L M : ℕ) (x y : Answer) → solve_given σ nodes b lo hi L ε r ≡ Ok x → solve_given σ nodes b lo hi M ε s ≡ Ok y → 1 ≤ L → 1 ≤ M → reached x ≡ false → Settled x M y
+  given_settled L M x y t u l k n = settled σ (given_problem nodes b ε) (intervals lo hi) L (given_answer σ nodes b lo hi ε L r t) M (given_answer σ nodes b lo hi ε M s u) l k n
 
 -- "Nobody who receives an assignment, whatever the problem, tolerance and limit, 0 included, can find it outside its starting box or failing
 -- document 01's check of the constraint."
@@ -59,13 +56,13 @@ pub assignment_holds : (σ : Settings) (p : Problem) (bounds : List Interval) �
 assignment_holds = assignment_kept
 
 -- Of what the calls return:
-module _ (σ : Settings) (file : List ℕ) (ε : Float) (L room : ℕ) (taken : (solve_file σ file L ε room).refusal ≡ 0) where
-  pub file_passes : (solve_file σ file L ε room).stop ≡ Word.Stop.Assignment → Passes σ (file_problem file ε) (file_bounds file) (values_of (solve_file σ file L ε room))
-  file_passes e = passing σ (file_problem file ε) (file_bounds file) L (file_answer σ file ε L room taken) (file_fair σ file ε L room taken) e
+module _ (σ : Settings) (file : List ℕ) (ε : Float) (L room : ℕ) where
+  pub file_passes : (m : List Float) (exact : Bool) (h : ℕ) → solve_file σ file L ε room ≡ Ok (assignment m exact h) → Passes σ (file_problem file ε) (file_bounds file) m
+  file_passes m exact h t = passing σ (file_problem file ε) (file_bounds file) L (file_answer σ file ε L room t) (file_fair σ file ε L room t) m exact h refl
 
-module _ (σ : Settings) (nodes b : List ℕ) (lo hi : List Float) (ε : Float) (L room : ℕ) (taken : (solve_given σ nodes b lo hi L ε room).refusal ≡ 0) where
-  pub given_passes : (solve_given σ nodes b lo hi L ε room).stop ≡ Word.Stop.Assignment → Passes σ (given_problem nodes b ε) (intervals lo hi) (values_of (solve_given σ nodes b lo hi L ε room))
-  given_passes e = passing σ (given_problem nodes b ε) (intervals lo hi) L (given_answer σ nodes b lo hi ε L room taken) (given_fair σ nodes b lo hi ε L room taken) e
+module _ (σ : Settings) (nodes b : List ℕ) (lo hi : List Float) (ε : Float) (L room : ℕ) where
+  pub given_passes : (m : List Float) (exact : Bool) (h : ℕ) → solve_given σ nodes b lo hi L ε room ≡ Ok (assignment m exact h) → Passes σ (given_problem nodes b ε) (intervals lo hi) m
+  given_passes m exact h t = passing σ (given_problem nodes b ε) (intervals lo hi) L (given_answer σ nodes b lo hi ε L room t) (given_fair σ nodes b lo hi ε L room t) m exact h refl
 
 -- "Nobody who propagates can lower a lo, raise a hi or empty an interval, whatever boxes and constraint were accepted and whatever the answer,
 -- Conflict included."

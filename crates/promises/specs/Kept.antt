@@ -1,6 +1,6 @@
 -- What a call that narrows keeps: after an answer each interval lies inside the one that was there, and is sound; after a refusal the places are what they
 -- were. Assumes nothing.
-use Rattle.std.specs.Prelude.{◌≡◌, Bool, List, [], Float}
+use Rattle.std.specs.Prelude.{◌≡◌, Bool, List, [], Float, Result}
 use Rattle.std.proofs.Math.Path.{refl}
 use Prim.Native.Nat.{ℕ, zero, suc}
 use Rattle.std.proofs.Math.Bool.{true, false}
@@ -9,8 +9,9 @@ use Rattle.interval.specs.Inside.{Sound, Each, EachInside}
 use Rattle.interval.specs.Boxes.{intervals}
 use Rattle.record.specs.Leaving.{Leaving}
 use Rattle.constraint.specs.Constraint.{Constraint}
-use Rattle.narrow.specs.declared.Propagated.{Propagated}
-use Rattle.narrow.specs.Given.{refusal_of, tested}
+use Rattle.narrow.specs.declared.PropResult.{PropResult}
+use Rattle.narrow.specs.Given.{tested}
+use Rattle.eml.specs.Answers.{number_of}
 use Rattle.narrow.specs.Held.{ConstraintHeld, constraint_held}
 use Rattle.file.specs.File.{Read, read_by, given_refusal, read_given}
 
@@ -19,14 +20,14 @@ abbrev pub Kept : {B : Type 0} → (B → List Interval) → B → ℕ → B →
 Kept boxes before zero after = EachInside (boxes before) (boxes after) × Each Sound (boxes after)
 Kept boxes before (suc r) after = after ≡ before
 
-abbrev pub Keeps : {B : Type 0} → (B → List Interval) → B → Leaving Propagated B → Type 0
-Keeps boxes before x = Kept boxes before (refusal_of x.answer) x.places
+abbrev pub Keeps : {B : Type 0} → (B → List Interval) → B → Leaving (Result PropResult ℕ) B → Type 0
+Keeps boxes before x = Kept boxes before (number_of x.answer) x.places
 
 -- two lists of ends
 abbrev pub boxes_in : List Float × List Float → List Interval
 boxes_in e = intervals e.0 e.1
 
-module _ {B : Type 0} (boxes : B → List Interval) (nodes constraints : List ℕ) (b : B) (next : Constraint → Leaving Propagated B) where
+module _ {B : Type 0} (boxes : B → List Interval) (nodes constraints : List ℕ) (b : B) (next : Constraint → Leaving (Result PropResult ℕ) B) where
   read_keeps : (t : Bool) (r : ℕ) (c : Constraint) → ConstraintHeld c → ((c : Constraint) → ConstraintHeld c → t ≡ true → Keeps boxes b (next c)) → Keeps boxes b (tested (read_by r (Read.Accepted c [])) t b next)
   unfolding tested
   read_keeps false zero c h f = refl

@@ -1,5 +1,5 @@
 -- The starred examples of document 01, "Conditions of acceptance", in its order, as one table. Assumes nothing.
-use Rattle.std.specs.Prelude.{◌≡◌, refl, ℕ, ◌^◌, true, List, [], ◌∷◌}
+use Rattle.std.specs.Prelude.{◌≡◌, refl, ℕ, ◌^◌, true, List, [], ◌∷◌, Ok, Err}
 use Rattle.std.specs.Float.Ieee.{neg}
 use Rattle.number.specs.Notation.{bits, whole, decimal, +∞}
 use Rattle.settings.specs.Settings.{usual}
@@ -11,7 +11,6 @@ use Rattle.constraint.specs.declared.Relation.TheVariants.{EqZero, GtZero, GeZer
 use Rattle.constraint.specs.Constraint.{Constraint, Atom, Not, And, Or, ForAll, end, ◌⨾◌}
 use Rattle.normal.specs.NormalForm.{to_nnf}
 use Rattle.point.specs.declared.eval.EvalError.TheVariants.{ComplexResult}
-use Rattle.point.specs.declared.eval.Evaluated.TheVariants.{Value, Failed}
 use Rattle.point.specs.Eval.{eval_real}
 use Rattle.narrow.specs.declared.PropResult.TheVariants.{Changed, Stable, Conflict}
 use Rattle.record.specs.Leaving.{◌leaving◌}
@@ -67,8 +66,8 @@ pub record Starred : Type 0 where
   pub or_empty : narrow (Or end) (whole 0 ‥ whole 1) ≡ Conflict leaving (whole 0 ‥ whole 1) ∷ []
   -- Eml(Const 0, One) is 1; Eml(Const 0, Const -1) is ComplexResult of 400921FB54442D18; Not of EqZero of the latter: solved, exact; its normal form:
   -- unsatisfied
-  pub eml_one : eval_real usual [] exp0 ≡ Value (whole 1)
-  pub eml_complex_lem : eval_real usual [] ln_negative ≡ Failed (ComplexResult (bits 0x400921FB54442D18))
+  pub eml_one : eval_real usual [] exp0 ≡ Ok (whole 1)
+  pub eml_complex_lem : eval_real usual [] ln_negative ≡ Err (ComplexResult (bits 0x400921FB54442D18))
   pub not_solved : solved (Not (Atom EqZero ln_negative)) [] 10_000 ≡ assignment [] true 0
   pub normal_form : solved (to_nnf (Not (Atom EqZero ln_negative))) [] 10_000 ≡ failed unsatisfied +∞ 0
   -- ForAll v0 in [0,1] EqZero(One), bounds [0,8], limit 1: 'limit', best 1, halvings 1, box [4,8]

@@ -1,21 +1,25 @@
 -- What an exported call leaves in the lent places, from what the function behind it answers. Assumes nothing.
-use Rattle.std.specs.Prelude.{◌≡◌, refl, ℕ, zero, suc, ◌≤◌, ◌<◌, Bool, true, false, List, leb, Float, length, take}
+use Rattle.std.specs.Prelude.{◌≡◌, refl, ℕ, zero, suc, ◌≤◌, ◌<◌, Bool, true, false, List, leb, Float, length, take, Result, Ok, Err}
 use Rattle.std.proofs.Common.{sym, ap, ◌∙◌, subst, arith, leb-true, leb-false}
+use Rattle.std.proofs.Math.Seq.{paste, take-paste}
 use Rattle.record.specs.Leaving.{Leaving}
 use Rattle.interval.specs.declared.Interval.{Interval}
-use Rattle.interval.specs.PlacesLaws.{copied_part}
-use Rattle.narrow.specs.declared.Propagated.{Propagated}
-use Rattle.narrow.specs.declared.Propagated.TheVariants.{Refused, Answered}
-use Rattle.narrow.specs.Given.{refusal_of}
-use Rattle.nra.specs.declared.answer.Stop as Word
-use Rattle.nra.specs.declared.answer.Solved.{Solved}
+use Rattle.narrow.specs.declared.PropResult.{PropResult}
+use Rattle.nra.specs.Solver.{Stop, conflict, tolerance, limit, unsatisfied, Answer, assignment, failed, halvings_of, reached}
 use Rattle.nra.specs.Answers.{stop_number}
-use Rattle.eml.specs.Answers.{writing, propagated}
-use Rattle.eml.specs.Places.{Solution, solution_of, solved, unless_refused}
-use Rattle.promises.specs.Received.{values_of, Settled, Counted}
+use Rattle.eml.specs.Answers.{number_of, writing, propagated}
+use Rattle.eml.specs.Places.{Solution, solution_of, solved}
+use Rattle.promises.specs.Received.{Settled, Counted}
 use Rattle.promises.specs.Kept.{Kept, Keeps}
 
 -- ---- what is promised of the places
+-- document 01's numbers of the stop words "assignment" and "limit"
+abbrev pub assignment_word : ℕ
+assignment_word = 0
+
+abbrev pub limit_word : ℕ
+limit_word = 3
+
 -- the values of the point in them
 abbrev pub values_in : Solution → List Float
 values_in x = take x.count x.point
@@ -33,92 +37,120 @@ pub record Same (x y : Solution) : Type 0 where
 pub record Settles (x : Solution) (M : ℕ) (y : Solution) : Type 0 where
   pub comes_back : x.halvings ≤ M → Same y x
   pub only_then : Same y x → x.halvings ≤ M
-  pub below : M < x.halvings → (y.stop ≡ stop_number Word.Stop.Limit) × (y.halvings ≡ M)
+  pub below : M < x.halvings → (y.stop ≡ limit_word) × (y.halvings ≡ M)
 
--- ---- a call that writes what s answers
-module _ {B : Type 0} (new old : B) where
-  pub written : (r : ℕ) → (unless_refused r new old).answer ≡ 0 → (r ≡ 0) × ((unless_refused r new old).places ≡ new)
-  written zero e = (refl, refl)
-  written (suc r) e = absurd (omega arith)
+-- ---- a call that writes what it answers
+pub returned : (x : Result Answer ℕ) (old : Solution) → (solved x old).answer ≡ number_of x
+returned (Ok a) old = refl
+returned (Err r) old = refl
 
-  pub unwritten : (r : ℕ) → ((unless_refused r new old).answer ≡ 0 → ⊥) → (unless_refused r new old).places ≡ old
-  unwritten zero n = absurd (n refl)
-  unwritten (suc r) n = refl
+pub unwritten : (x : Result Answer ℕ) (old : Solution) → ((solved x old).answer ≡ 0 → ⊥) → (solved x old).places ≡ old
+unwritten (Ok a) old n = absurd (n refl)
+unwritten (Err r) old n = refl
 
-abbrev pub Fitting : Solved → Type 0
-Fitting s = s.count ≤ length s.point
+module _ {x : Result Answer ℕ} {a : Answer} (is : x ≡ Ok a) (old : Solution) where
+  pub left_is : (solved x old).places ≡ solution_of a old.point
+  left_is = ap (λ (r : Result Answer ℕ). (solved r old).places) is
 
-module _ (s : Solved) (old : Solution) (fits : Fitting s) (taken : (solved s old).answer ≡ 0) where
-  pub taken_is : s.refusal ≡ 0
-  taken_is = (written (solution_of s old.point) old s.refusal taken).0
+-- ---- what an answer leaves
+pub limit_left : (a : Answer) (places : List Float) → reached a ≡ true → (solution_of a places).stop ≡ limit_word
+limit_left (assignment m exact h) places e = cc
+limit_left (failed conflict r h) places e = cc
+limit_left (failed tolerance r h) places e = cc
+limit_left (failed limit r h) places e = refl
+limit_left (failed unsatisfied r h) places e = cc
 
-  left_is : (solved s old).places ≡ solution_of s old.point
-  left_is = (written (solution_of s old.point) old s.refusal taken).1
+pub not_limit_left : (a : Answer) (places : List Float) → ((solution_of a places).stop ≡ limit_word → ⊥) → reached a ≡ false
+not_limit_left (assignment m exact h) places n = refl
+not_limit_left (failed conflict r h) places n = refl
+not_limit_left (failed tolerance r h) places n = refl
+not_limit_left (failed limit r h) places n = absurd (n refl)
+not_limit_left (failed unsatisfied r h) places n = refl
 
-  pub values_left : values_in (solved s old).places ≡ values_of s
-  values_left = ap values_in left_is ∙ copied_part old.point s.point _ s.count refl fits
+limit_reached : (a : Answer) (places : List Float) → (solution_of a places).stop ≡ limit_word → reached a ≡ true
+limit_reached (assignment m exact h) places e = absurd (omega arith)
+limit_reached (failed conflict r h) places e = absurd (omega arith)
+limit_reached (failed tolerance r h) places e = absurd (omega arith)
+limit_reached (failed limit r h) places e = refl
+limit_reached (failed unsatisfied r h) places e = absurd (omega arith)
 
-  stop_left : (solved s old).places.stop ≡ stop_number s.stop
-  stop_left = ap (λ (x : Solution). x.stop) left_is
+halvings_left : (a : Answer) (places : List Float) → (solution_of a places).halvings ≡ halvings_of a
+halvings_left (assignment m exact h) places = refl
+halvings_left (failed w r h) places = refl
 
-  halvings_left : (solved s old).places.halvings ≡ s.halvings
-  halvings_left = ap (λ (x : Solution). x.halvings) left_is
+-- the values of an answer's point
+abbrev values_of : Answer → List Float
+values_of (assignment m exact h) = m
+values_of (failed w r h) = []
 
-  pub assignment_left : (solved s old).places.stop ≡ stop_number Word.Stop.Assignment → s.stop ≡ Word.Stop.Assignment
-  assignment_left e = by s.stop (sym stop_left ∙ e)
+values_left : (a : Answer) (places : List Float) → values_in (solution_of a places) ≡ values_of a
+values_left (assignment m exact h) places = take-paste places 0 m (length m) (omega arith) (omega arith) ∙ take-length m
+values_left (failed w r h) places = refl
+
+-- an assignment is left with its values
+pub record Assigned (a : Answer) (x : Solution) : Type 0 where
+  pub exact : Bool
+  pub halvings : ℕ
+  pub is : a ≡ assignment (values_in x) exact halvings
+
+pub assignment_left : (a : Answer) (places : List Float) → (solution_of a places).stop ≡ assignment_word → Assigned a (solution_of a places)
+assignment_left (assignment m exact h) places e =
+    record { exact = exact; halvings = h; is = ap (λ (l : List Float). assignment l exact h) (sym (values_left (assignment m exact h) places)) }
+assignment_left (failed conflict r h) places e = absurd (omega arith)
+assignment_left (failed tolerance r h) places e = absurd (omega arith)
+assignment_left (failed limit r h) places e = absurd (omega arith)
+assignment_left (failed unsatisfied r h) places e = absurd (omega arith)
+
+pub counted_left : (L : ℕ) (a : Answer) (places : List Float) → Counted L (Ok a) → ((solution_of a places).halvings ≤ L) × ((solution_of a places).stop ≡ limit_word → (solution_of a places).halvings ≡ L)
+counted_left L a places c = (omega (arith, halvings_left a places, c.at_most a refl), λ e. halvings_left a places ∙ c.limit_itself a refl (limit_reached a places e))
+
+-- two answers alike are left alike, whatever the places held past the values
+same_left : (a : Answer) (p q : List Float) → Same (solution_of a q) (solution_of a p)
+same_left a p q = by a
+  where
+    by : (a : Answer) → Same (solution_of a q) (solution_of a p)
+    by (assignment m exact h) = record { stop = refl; exact = refl; residual = refl; halvings = refl; count = refl; values = values_left (assignment m exact h) q ∙ sym (values_left (assignment m exact h) p) }
+    by (failed w r h) = record { stop = refl; exact = refl; residual = refl; halvings = refl; count = refl; values = refl }
+
+module _ (a b : Answer) (p q : List Float) where
+  pub settles : (M : ℕ) → ((solution_of a p).stop ≡ limit_word → ⊥) → Settled a M b → Settles (solution_of a p) M (solution_of b q)
+  settles M n s = record { comes_back = λ h. again (s.comes_back (omega (arith, counted))); only_then = λ e. by (leb (halvings_of a) M) refl e; below = λ h. early (omega (arith, counted)) }
     where
-      by : (w : Word.Stop) → stop_number w ≡ 0 → w ≡ Word.Stop.Assignment
-      by Word.Stop.Assignment e = refl
-      by Word.Stop.Conflict e = absurd (omega arith)
-      by Word.Stop.Tolerance e = absurd (omega arith)
-      by Word.Stop.Limit e = absurd (omega arith)
-      by Word.Stop.Unsatisfied e = absurd (omega arith)
+      counted : (solution_of a p).halvings ≡ halvings_of a
+      counted = halvings_left a p
 
-  pub not_limit_left : ((solved s old).places.stop ≡ stop_number Word.Stop.Limit → ⊥) → s.stop ≡ Word.Stop.Limit → ⊥
-  not_limit_left n e = n (stop_left ∙ ap (λ (w : Word.Stop). stop_number w) e)
+      again : b ≡ a → Same (solution_of b q) (solution_of a p)
+      again e = subst (λ (x : Answer). Same (solution_of x q) (solution_of a p)) (sym e) (same_left a p q)
 
-  pub counted_left : (L : ℕ) → Counted L s → ((solved s old).places.halvings ≤ L) × ((solved s old).places.stop ≡ stop_number Word.Stop.Limit → (solved s old).places.halvings ≡ L)
-  counted_left L c = (omega (arith, halvings_left, c.at_most), λ e. halvings_left ∙ c.limit_itself (by s.stop (sym stop_left ∙ e)))
-    where
-      by : (w : Word.Stop) → stop_number w ≡ 3 → w ≡ Word.Stop.Limit
-      by Word.Stop.Assignment e = absurd (omega arith)
-      by Word.Stop.Conflict e = absurd (omega arith)
-      by Word.Stop.Tolerance e = absurd (omega arith)
-      by Word.Stop.Limit e = refl
-      by Word.Stop.Unsatisfied e = absurd (omega arith)
+      early : M < halvings_of a → ((solution_of b q).stop ≡ limit_word) × ((solution_of b q).halvings ≡ M)
+      early h = let r = s.below h in (limit_left b q r.0, halvings_left b q ∙ r.1)
 
-module _ (s t : Solved) (a b : Solution) (s-fits : Fitting s) (t-fits : Fitting t) (s-taken : (solved s a).answer ≡ 0) (t-taken : (solved t b).answer ≡ 0) where
-  same_left : t ≡ s → Same (solved t b).places (solved s a).places
-  same_left e =
-      let x = left_is s a s-fits s-taken in
-      let y = left_is t b t-fits t-taken in
-      record {
-        stop = stop_left t b t-fits t-taken ∙ ap (λ (r : Solved). stop_number r.stop) e ∙ sym (stop_left s a s-fits s-taken);
-        exact = ap (λ (z : Solution). z.exact) y ∙ ap (λ (r : Solved). r.exact) e ∙ sym (ap (λ (z : Solution). z.exact) x);
-        residual = ap (λ (z : Solution). z.residual) y ∙ ap (λ (r : Solved). r.residual) e ∙ sym (ap (λ (z : Solution). z.residual) x);
-        halvings = halvings_left t b t-fits t-taken ∙ ap (λ (r : Solved). r.halvings) e ∙ sym (halvings_left s a s-fits s-taken);
-        count = ap (λ (z : Solution). z.count) y ∙ ap (λ (r : Solved). r.count) e ∙ sym (ap (λ (z : Solution). z.count) x);
-        values = values_left t b t-fits t-taken ∙ ap values_of e ∙ sym (values_left s a s-fits s-taken);
-      }
+      by : (k : Bool) → leb (halvings_of a) M ≡ k → Same (solution_of b q) (solution_of a p) → (solution_of a p).halvings ≤ M
+      by true q e = omega (arith, counted, leb-true (halvings_of a) M q)
+      by false q e = absurd (n (sym e.stop ∙ (early (leb-false (halvings_of a) M q)).0))
 
-  pub settles : (M : ℕ) → ((solved s a).places.stop ≡ stop_number Word.Stop.Limit → ⊥) → Settled s M t → Settles (solved s a).places M (solved t b).places
-  settles M n p = record { comes_back = λ h. same_left (p.comes_back (omega (arith, counted))); only_then = λ e. by (leb s.halvings M) refl e; below = λ h. early (omega (arith, counted)) }
-    where
-      counted : (solved s a).places.halvings ≡ s.halvings
-      counted = halvings_left s a s-fits s-taken
+-- ---- and what a call leaves that answers so
+module _ {x : Result Answer ℕ} {a : Answer} (is : x ≡ Ok a) (p : Solution) where
+  pub counts_left : (L : ℕ) → Counted L x → ((solved x p).places.halvings ≤ L) × ((solved x p).places.stop ≡ limit_word → (solved x p).places.halvings ≡ L)
+  counts_left L c =
+      subst (λ (s : Solution). (s.halvings ≤ L) × (s.stop ≡ limit_word → s.halvings ≡ L)) (sym (left_is is p)) (counted_left L a p.point (subst (Counted L) is c))
 
-      early : M < s.halvings → ((solved t b).places.stop ≡ stop_number Word.Stop.Limit) × ((solved t b).places.halvings ≡ M)
-      early h = let r = p.below h in (stop_left t b t-fits t-taken ∙ ap (λ (w : Word.Stop). stop_number w) r.0, halvings_left t b t-fits t-taken ∙ r.1)
+  pub passes_left : (P : List Float → Type 0) → ((m : List Float) (exact : Bool) (h : ℕ) → x ≡ Ok (assignment m exact h) → P m) → (solved x p).places.stop ≡ assignment_word → P (values_in (solved x p).places)
+  passes_left P f e =
+      let r = assignment_left a p.point (sym (ap (λ (s : Solution). s.stop) (left_is is p)) ∙ e) in
+      subst (λ (s : Solution). P (values_in s)) (sym (left_is is p)) (f (values_in (solution_of a p.point)) r.exact r.halvings (is ∙ ap Ok r.is))
 
-      by : (k : Bool) → leb s.halvings M ≡ k → Same (solved t b).places (solved s a).places → (solved s a).places.halvings ≤ M
-      by true q e = omega (arith, counted, leb-true s.halvings M q)
-      by false q e = absurd (n (sym e.stop ∙ (early (leb-false s.halvings M q)).0))
+  pub both_left : {y : Result Answer ℕ} {b : Answer} → y ≡ Ok b → (q : Solution) (M : ℕ) → ((solved x p).places.stop ≡ limit_word → ⊥) → (reached a ≡ false → Settled a M b) → Settles (solved x p).places M (solved y q).places
+  both_left {y} {b} other q M n s =
+      let stops = λ (e : (solution_of a p.point).stop ≡ limit_word). n (ap (λ (s : Solution). s.stop) (left_is is p) ∙ e) in
+      subst (λ (r : Solution). Settles r M (solved y q).places) (sym (left_is is p))
+      (subst (λ (r : Solution). Settles (solution_of a p.point) M r) (sym (left_is other q)) (settles a b p.point q.point M stops (s (not_limit_left a p.point stops))))
 
 -- ---- a call that narrows: the number that it returns
-number_is : (p : Propagated) (old : ℕ) → refusal_of p ≡ (propagated p old).answer
-number_is (Refused r) old = refl
-number_is (Answered w) old = refl
+number_is : (p : Result PropResult ℕ) (old : ℕ) → number_of p ≡ (propagated p old).answer
+number_is (Err r) old = refl
+number_is (Ok w) old = refl
 
-module _ {B : Type 0} (boxes : B → List Interval) (before : B) (x : Leaving Propagated B) (old : ℕ) where
+module _ {B : Type 0} (boxes : B → List Interval) (before : B) (x : Leaving (Result PropResult ℕ) B) (old : ℕ) where
   pub left_keeps : Keeps boxes before x → Kept boxes before (writing propagated x old).answer (writing propagated x old).places.1
   left_keeps k = subst (λ (r : ℕ). Kept boxes before r x.places) (number_is x.answer old) k

@@ -1,8 +1,0 @@
--- `eml_num_vars` meets its contract. Assumes nothing.
-use Rattle.eml.proofs.reading.eml_num_vars.Goals as goal
-
-pub returns-in-Refused : goal.returns-in-Refused
-returns-in-Refused c = rw (← c.num_vars.ensures, c.in-Refused.is)
-
-pub returns-in-Value : goal.returns-in-Value
-returns-in-Value c = rw (← c.num_vars.ensures, c.in-Value.is)
