@@ -1,6 +1,6 @@
-pub mod Halves
 pub mod Digits
 pub mod Powers
 pub mod Mantissa
 pub mod Range
 pub mod Quarters
+pub mod Series

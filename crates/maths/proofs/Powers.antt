@@ -3,18 +3,17 @@ use mathlib.Core.Path.{◌≡◌, refl, ap, sym, ◌∙◌, subst}
 use Prim.Native.Nat.{ℕ, suc, ◌+◌, ◌-◌, ◌*◌, ◌%◌, ◌^◌, ◌<◌}
 use native.Mathlib.Nat.{one-mul, mul-one, mul-le-mul, lt_of_lt_of_le}
 use native.Mathlib.Omega.{arith}
-use mathlib.Core.Bool.{false, not}
+use mathlib.Core.Bool.{false}
 use lib.IntN.{ℤ, pos, negsuc, nat_abs, ◌+ℤ◌}
-use lib.Signed.{mag, non_neg}
+use lib.Signed.{mag}
 use lib.Dec.{T, lit<, lit≤}
 use lib.Pow.{pow-lt, pow_mono, pow_pos}
 use borrow.Author.Tests.{le-ltb, le-leb, lt-leb}
 use mir.Syntax.{w64}
-use mir.Val.{Fits, SFits}
+use mir.Val.{SFits}
 use mir.ValLaws.{to_z-of_z}
-use lib.Ieee.{fin, binary64, minus, size, of_bits, to_bits, nan_bits, fits}
+use lib.Ieee.{fin, binary64, minus, size, of_bits, fits}
 use Rattle.number.specs.Cast.{again}
-use Rattle.number.specs.Next.{no_nan_below}
 use Rattle.maths.proofs.Digits.{digits, normal, fits_i, read_back}
 
 -- ---- a + 1023 as a field
@@ -60,21 +59,14 @@ module _ (a : ℤ) (f : SFits w64 a) (h : mag a < 1022) where
   sum_is : again a +ℤ pos 1023 ≡ pos (suc i.n)
   sum_is = ap (λ (z : ℤ). z +ℤ pos 1023) (to_z-of_z w64 a f) ∙ i.sum
 
-  pub sum_fits : SFits w64 (again a +ℤ pos 1023)
+  sum_fits : SFits w64 (again a +ℤ pos 1023)
   sum_fits = subst (SFits w64) (sym sum_is) (record { sfits = omega (arith, i.small) })
 
   field_is : again (again a +ℤ pos 1023) ≡ pos (suc i.n)
   field_is = to_z-of_z w64 (again a +ℤ pos 1023) sum_fits ∙ sum_is
 
-  pub field_ok : T (non_neg (again (again a +ℤ pos 1023))) × Fits w64 (nat_abs (again (again a +ℤ pos 1023)))
-  field_ok = subst (λ (z : ℤ). T (non_neg z) × Fits w64 (nat_abs z)) (sym field_is) (tt, record { fits = omega (arith, i.small) })
-
   bits_are : nat_abs (again (again a +ℤ pos 1023)) * 2 ^ 52 % 2 ^ 64 ≡ suc i.n * 2 ^ 52
   bits_are = ap (λ (z : ℤ). nat_abs z * 2 ^ 52 % 2 ^ 64) field_is ∙ omega (arith, i.small)
-
-  pub bits_ok : T (not (nan_bits binary64 (nat_abs (again (again a +ℤ pos 1023)) * 2 ^ 52 % 2 ^ 64)))
-  unfolding to_bits
-  bits_ok = subst (λ (z : ℕ). T (not (nan_bits binary64 z))) (sym bits_are) (no_nan_below binary64 (suc i.n * 2 ^ 52) (omega (arith, i.small)))
 
   pub value_is : of_bits binary64 (nat_abs (again (again a +ℤ pos 1023)) * 2 ^ 52 % 2 ^ 64) ≡ fin false 1 a
   value_is = ap (of_bits binary64) bits_are ∙ power a i (power_fits a h)

@@ -1,5 +1,5 @@
 -- sin, cos and atan of document 01, "Stand-ins for library mathematics": each operation rounded once, in the order shown.
-use Rattle.std.specs.Prelude.{ℕ, ◌+◌, ◌-◌, ◌*◌, ◌%◌, ◌^◌, eqb, ℤ, pos, negsuc, Float}
+use Rattle.std.specs.Prelude.{ℕ, ◌+◌, ◌-◌, ◌*◌, ◌%◌, ◌^◌, eqb, ℤ, pos, negsuc, Option, Some, None, Float}
 use Rattle.std.specs.Float.{nan}
 use Rattle.std.specs.Float.Ieee.{is_nan, neg}
 use Rattle.number.specs.Notation.{when◌then◌else◌, ◌⊕◌, ◌⊖◌, ◌⊗◌, ◌⊘◌, ◌≺◌, bits, whole, integer, decimal}
@@ -37,9 +37,9 @@ abbrev pub quarter : ℤ → ℕ
 quarter (pos k) = k % 4
 quarter (negsuc k) = 3 - k % 4
 
--- NaN or |b| > 2^20 is too far
-unfoldable pub turn_of : Float → Turn
-turn_of b = when is_nan b then Turn.Far else when whole (2 ^ 20) ≺ abs_of b then Turn.Far else Turn.By (quarter (turns b)) (rest b (turns b))
+-- none for NaN or |b| > 2^20, which is too far
+unfoldable pub turn_of : Float → Option Turn
+turn_of b = when is_nan b then None else when whole (2 ^ 20) ≺ abs_of b then None else Some (record { quarter = quarter (turns b); rest = rest b (turns b) })
 
 -- by n mod 4: sin is s, C, -s, -C; cos is C, -s, -C, s
 unfoldable pub sin_by : ℕ → Float → Float
@@ -49,9 +49,9 @@ unfoldable pub cos_by : ℕ → Float → Float
 cos_by q r = when eqb q 0 then cos_at r else when eqb q 1 then neg (sin_at r) else when eqb q 2 then neg (cos_at r) else sin_at r
 
 -- what is too far gives NaN
-abbrev pub turned : (ℕ → Float → Float) → Turn → Float
-turned by Turn.Far = nan
-turned by (Turn.By q r) = by q r
+abbrev pub turned : (ℕ → Float → Float) → Option Turn → Float
+turned by None = nan
+turned by (Some t) = by t.quarter t.rest
 
 unfoldable pub sin_of : Float → Float
 sin_of b = turned sin_by (turn_of b)

@@ -1,8 +1,8 @@
 // The stand-ins for library mathematics of document 01: exp, ln, sine, cosine, arctangent, and complex exp and ln. Each operation is
 // rounded once, in the order that the document shows.
-#![tactic(auto)]
+#![tactic(auto, using(std::proofs::lemmas::Float::not_nan_f64_bits))]
 
-ghost use Rattle.std.specs.Prelude.{◌≡◌, ◌+◌, ◌<◌, ◌≤◌, ◌^◌, T};
+ghost use Rattle.std.specs.Prelude.{◌≡◌, ◌+◌, ◌<◌, ◌≤◌, ◌^◌, T, IfSome};
 ghost use Rattle.std.specs.Int.Signed.{mag};
 ghost use Rattle.std.specs.Float.{binary64};
 ghost use Rattle.std.specs.Float.Ieee.{of_bits};
@@ -13,7 +13,7 @@ ghost use Rattle.maths.specs.Series.{series};
 ghost use Rattle.maths.specs.Exp.{two^, exp_sum, scaled, exp_of};
 ghost use Rattle.maths.specs.Ln.{ln_sum, ln_at, mantissa, exponent, ln_of};
 ghost use Rattle.maths.specs.Trig.{turns, rest, quarter, sin_step, cos_step, sin_at, cos_at, turn_of, sin_by, sin_of, cos_of, atan_sum, atan_at, atan_of};
-ghost use Rattle.maths.specs.Cplx.{complex_exp, log_size, angle, complex_ln};
+ghost use Rattle.maths.specs.Cplx.{complex_exp, log_size, signed, angle, complex_ln};
 
 // A whole number that an f64 holds exactly.
 fn float_of(n: i64) -> f64
@@ -34,13 +34,9 @@ fn two_to(a: i64) -> f64
 fn exp_sum(r: f64) -> f64
     ensures { result ≡ exp_sum r }
 {
-    let mut s = 1.0;
-    let mut d = 14u32;
-    while d > 0 {
-        s = 1.0 + (r * s) / (d as f64);
-        d -= 1;
-    }
-    s
+    (1..15u32)
+        .rev()
+        .fold(1.0, |s, d| 1.0 + (r * s) / (d as f64))
 }
 
 // (s×2^a)×2^(k-a), a = k/2 rounded down
@@ -55,11 +51,11 @@ fn scale(s: f64, k: i64) -> f64
 pub fn exp(x: f64) -> f64
     ensures { result ≡ exp_of x }
 {
-    if x != x {
+    if x.is_nan() {
         return x;
     }
     if x >= 710.0 {
-        return 1.0 / 0.0;
+        return f64::INFINITY;
     }
     if x <= -746.0 {
         return 0.0;
@@ -110,13 +106,9 @@ fn split(x: f64) -> Parts
 fn ln_sum(w: f64) -> f64
     ensures { result ≡ ln_sum w }
 {
-    let mut s = 1.0 / 23.0;
-    let mut i = 11u32;
-    while i > 0 {
-        s = 1.0 / ((2 * i - 1) as f64) + w * s;
-        i -= 1;
-    }
-    s
+    (1..12u32)
+        .rev()
+        .fold(1.0 / 23.0, |s, i| 1.0 / ((2 * i - 1) as f64) + w * s)
 }
 
 fn ln_at(m: f64, e: i64) -> f64
@@ -133,21 +125,19 @@ fn ln_at(m: f64, e: i64) -> f64
 pub fn ln(x: f64) -> f64
     ensures { result ≡ ln_of x }
 {
-    if x != x {
+    if x.is_nan() {
         return x;
     }
     if x < 0.0 {
-        return 0.0 / 0.0;
+        return f64::NAN;
     }
     if x == 0.0 {
-        return -1.0 / 0.0;
+        return f64::NEG_INFINITY;
     }
-    if x == 1.0 / 0.0 {
+    if x == f64::INFINITY {
         return x;
     }
-    let p = split(x);
-    let m = p.m;
-    let e = p.e;
+    let Parts { m, e } = split(x);
     if m > f64::from_bits(0x3FF6A09E667F3BCD) {
         ln_at(m / 2.0, e + 1)
     } else {
@@ -180,27 +170,19 @@ pub fn quick_ln(x: f64) -> f64
 fn sin_sum(w: f64) -> f64
     ensures { result ≡ series (sin_step w) 8 (whole 1) }
 {
-    let mut s = 1.0;
-    let mut i = 8u32;
-    while i > 0 {
+    (1..9u32).rev().fold(1.0, |s, i| {
         let d = 2 * i;
-        s = 1.0 - (w * s) / ((d * (d + 1)) as f64);
-        i -= 1;
-    }
-    s
+        1.0 - (w * s) / ((d * (d + 1)) as f64)
+    })
 }
 
 fn cos_sum(w: f64) -> f64
     ensures { result ≡ series (cos_step w) 9 (whole 1) }
 {
-    let mut c = 1.0;
-    let mut i = 9u32;
-    while i > 0 {
+    (1..10u32).rev().fold(1.0, |c, i| {
         let d = 2 * i;
-        c = 1.0 - (w * c) / (((d - 1) * d) as f64);
-        i -= 1;
-    }
-    c
+        1.0 - (w * c) / (((d - 1) * d) as f64)
+    })
 }
 
 fn sin_at(r: f64) -> f64
@@ -233,53 +215,51 @@ fn rest_of(b: f64, n: i64) -> f64
 
 // n mod 4, never negative.
 fn quarter_of(n: i64) -> u64
-    requires { mag n < 2 ^ 21 }
-    ensures { result ≡ quarter n }
+    ensures value { result ≡ quarter n }
+    ensures small { result < 4 }
 {
-    ((n + 4194304) as u64) % 4
+    n.rem_euclid(4) as u64
 }
 
-// What sin and cos need of an angle: its quarter turn and the rest, unless it is too far.
+// What sin and cos need of an angle: its quarter turn and the rest.
 #[derive(Clone, Copy)]
-pub enum Turn {
-    Far,
-    By(u64, f64),
+pub struct Turn {
+    quarter: u64,
+    rest: f64,
 }
 
-fn turn_of(b: f64) -> Turn
-    ensures { result ≡ turn_of b }
+// None where b is too far.
+fn turn_of(b: f64) -> Option<Turn>
+    ensures value { result ≡ turn_of b }
+    ensures small { IfSome result (λ t. t.quarter < 4) }
 {
-    if b != b {
-        return Turn::Far;
-    }
-    if number::abs(b) > 1048576.0 {
-        return Turn::Far;
+    if b.is_nan() || number::abs(b) > 1048576.0 {
+        return None;
     }
     let n = turns_of(b);
-    Turn::By(quarter_of(n), rest_of(b, n))
+    Some(Turn {
+        quarter: quarter_of(n),
+        rest: rest_of(b, n),
+    })
 }
 
-fn sin_by(q: u64, r: f64) -> f64
-    ensures { result ≡ sin_by q r }
+fn sin_by(quarter: u64, r: f64) -> f64
+    ensures { result ≡ sin_by quarter r }
 {
-    if q == 0 {
-        return sin_at(r);
+    match quarter {
+        0 => sin_at(r),
+        1 => cos_at(r),
+        2 => -sin_at(r),
+        _ => -cos_at(r),
     }
-    if q == 1 {
-        return cos_at(r);
-    }
-    if q == 2 {
-        return -sin_at(r);
-    }
-    -cos_at(r)
 }
 
 pub fn sin(b: f64) -> f64
     ensures { result ≡ sin_of b }
 {
     match turn_of(b) {
-        Turn::Far => 0.0 / 0.0,
-        Turn::By(q, r) => sin_by(q, r),
+        Some(t) => sin_by(t.quarter, t.rest),
+        None => f64::NAN,
     }
 }
 
@@ -288,21 +268,17 @@ pub fn cos(b: f64) -> f64
     ensures { result ≡ cos_of b }
 {
     match turn_of(b) {
-        Turn::Far => 0.0 / 0.0,
-        Turn::By(q, r) => sin_by((q + 1) % 4, r),
+        Some(t) => sin_by((t.quarter + 1) % 4, t.rest),
+        None => f64::NAN,
     }
 }
 
 fn atan_sum(w: f64) -> f64
     ensures { result ≡ atan_sum w }
 {
-    let mut s = 1.0 / 43.0;
-    let mut i = 21u32;
-    while i > 0 {
-        s = 1.0 / ((2 * i - 1) as f64) - w * s;
-        i -= 1;
-    }
-    s
+    (1..22u32)
+        .rev()
+        .fold(1.0 / 43.0, |s, i| 1.0 / ((2 * i - 1) as f64) - w * s)
 }
 
 fn atan_at(base: f64, u: f64) -> f64
@@ -355,29 +331,34 @@ fn log_size(m: f64, q: f64) -> f64
     ln(m) + 0.5 * ln(1.0 + q * q)
 }
 
+// An angle that is not negative, with y's sign.
+fn signed(y: f64, angle: f64) -> f64
+    ensures { result ≡ signed y angle }
+{
+    if number::sign_bit(y) { -angle } else { angle }
+}
+
 fn angle_of(z: Complex, t: f64) -> f64
     ensures { result ≡ angle z t }
 {
-    let mut a = t;
     if z.re < 0.0 {
-        a = f64::from_bits(0x400921FB54442D18) - t;
+        signed(z.im, f64::from_bits(0x400921FB54442D18) - t)
+    } else {
+        signed(z.im, t)
     }
-    if number::sign_bit(z.im) { -a } else { a }
 }
 
 pub fn complex_ln(z: Complex) -> Complex
     ensures { result ≡ complex_ln z }
 {
-    let re = z.re;
-    let im = z.im;
+    let Complex { re, im } = z;
     if im == 0.0 {
         let size = quick_ln(number::abs(re));
         if number::sign_bit(re) {
-            let pi = f64::from_bits(0x400921FB54442D18);
-            if number::sign_bit(im) {
-                return Complex { re: size, im: -pi };
-            }
-            return Complex { re: size, im: pi };
+            return Complex {
+                re: size,
+                im: signed(im, f64::from_bits(0x400921FB54442D18)),
+            };
         }
         return Complex { re: size, im };
     }

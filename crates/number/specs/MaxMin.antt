@@ -5,9 +5,9 @@ use Rattle.std.proofs.Math.Path.{refl}
 use Rattle.std.proofs.Common.{sym, subst, ⊎_elim}
 use Rattle.std.proofs.Math.Logic.{inl, inr}
 use Rattle.std.specs.Float.{nan}
-use Rattle.std.specs.Float.Ieee.{lt, le, ne}
+use Rattle.std.specs.Float.Ieee.{lt, le}
 use Rattle.number.specs.Notation.{when◌then◌else◌}
-use Rattle.number.specs.Order.{number, nan_test, le_refl, le_trans, le_nan_left, le_nan_right, lt→le, not_lt→le}
+use Rattle.number.specs.Order.{number, le_refl, le_trans, le_nan_left, le_nan_right, lt→le, not_lt→le}
 
 -- the order the other way
 abbrev pub gt : Float → Float → Bool
@@ -29,21 +29,21 @@ min_of a b = choose gt a b
 
 -- each way out, where only a was tested for a NaN
 module _ (t : Float → Float → Bool) (a b : Float) where
-  pub chosen_nan : ne a a ≡ true → b ≡ choose t a b
+  pub chosen_nan : is_nan a ≡ true → b ≡ choose t a b
   unfolding when◌then◌else◌
-  chosen_nan e = rw (nan_test a, e)
+  chosen_nan e = rw e
 
-  pub chosen_second : ne a a ≡ false → T (number b) → t a b ≡ true → b ≡ choose t a b
+  pub chosen_second : is_nan a ≡ false → T (number b) → t a b ≡ true → b ≡ choose t a b
   unfolding when◌then◌else◌
-  chosen_second e p h = rw (nan_test a, e, no_nan (is_nan b) p, h)
+  chosen_second e p h = rw (e, no_nan (is_nan b) p, h)
     where
       no_nan : (i : Bool) → T (not i) → i ≡ false
       no_nan true p = absurd p
       no_nan false p = refl
 
-  pub chosen_first : ne a a ≡ false → t a b ≡ false → a ≡ choose t a b
+  pub chosen_first : is_nan a ≡ false → t a b ≡ false → a ≡ choose t a b
   unfolding when◌then◌else◌
-  chosen_first e h = rw (nan_test a, e, h) (either (is_nan b))
+  chosen_first e h = rw (e, h) (either (is_nan b))
     where
       either : (i : Bool) → a ≡ (when i then a else a)
       either true = refl

@@ -81,6 +81,13 @@ nan_test (inf false) = refl
 nan_test (fin true m e) = sym (ap not (level_self (m * up e * down e)))
 nan_test (fin false m e) = sym (ap not (level_self (m * up e * down e)))
 
+-- and what it finds
+pub only_nan : (x : Float) → is_nan x ≡ true → x ≡ nan
+unfolding is_nan
+only_nan nan h = refl
+only_nan (inf s) h = cc
+only_nan (fin s m e) h = cc
+
 pub number_of : (x : Float) → ne x x ≡ false → T (number x)
 number_of x e = failed (nan_test x ∙ e)
 

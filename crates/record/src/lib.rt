@@ -16,20 +16,19 @@ pub fn wide(x: u8) -> u32
     x as u32
 }
 
+// The two widths: the library's one call each, where a trait for both would be longer.
 pub fn read_u32(b: &[u8], at: usize) -> u32
     requires { at + 4 ≤ length b.now }
     ensures { result ≡ u32_at b.now at }
 {
-    wide(b[at]) + 256 * (wide(b[at + 1]) + 256 * (wide(b[at + 2]) + 256 * wide(b[at + 3])))
+    u32::from_le_bytes(*b[at..].first_chunk().unwrap())
 }
 
 pub fn read_u64(b: &[u8], at: usize) -> u64
     requires { at + 8 ≤ length b.now }
     ensures { result ≡ u64_at b.now at }
 {
-    let low = read_u32(b, at) as u64;
-    let high = read_u32(b, at + 4) as u64;
-    low + 4294967296 * high
+    u64::from_le_bytes(*b[at..].first_chunk().unwrap())
 }
 
 pub fn read_f64(b: &[u8], at: usize) -> f64
@@ -43,16 +42,12 @@ pub fn write_u32(b: &mut [u8], at: usize, n: u32)
     requires { at + 4 ≤ length b.old }
     ensures { final b ≡ sets (old b) at (u32_bytes n) }
 {
-    b[at] = (n % 256) as u8;
-    b[at + 1] = (n / 256 % 256) as u8;
-    b[at + 2] = (n / 65536 % 256) as u8;
-    b[at + 3] = (n / 16777216 % 256) as u8;
+    b[at..at + 4].copy_from_slice(&n.to_le_bytes());
 }
 
 pub fn write_u64(b: &mut [u8], at: usize, n: u64)
     requires { at + 8 ≤ length b.old }
     ensures { final b ≡ sets (old b) at (u64_bytes n) }
 {
-    write_u32(b, at, (n % 4294967296) as u32);
-    write_u32(b, at + 4, (n / 4294967296) as u32);
+    b[at..at + 8].copy_from_slice(&n.to_le_bytes());
 }

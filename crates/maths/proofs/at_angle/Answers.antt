@@ -14,7 +14,5 @@ zero c = passed c.if-angle.true
 pub returns-then-angle : goal.returns-then-angle
 returns-then-angle c =
     let h = passed c.well_formed.1.0.1 in
-    cc (one_is, cos_zero c.args.angle h (zero (goal.at.returns-then-angle c).Then-angle), sin_zero c.args.angle h (zero (goal.at.returns-then-angle c).Then-angle))
-
-pub returns : goal.returns
-returns c = cc (c.cos.ensures, c.sin.ensures)
+    let z = zero (goal.at.returns-then-angle c).Then-angle in
+    cc (one_is, cos_zero c.args.angle h z, sin_zero c.args.angle h z)

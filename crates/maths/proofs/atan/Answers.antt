@@ -1,6 +1,6 @@
 -- `maths::atan` meets its contract. Assumes nothing.
 use mathlib.Core.Path.{◌≡◌, refl}
-use lib.Ieee.{nan_bits, of_bits, round}
+use lib.Ieee.{of_bits, round}
 use Rattle.number.specs.Notation.{when◌then◌else◌, bits, decimal}
 use Rattle.maths.specs.Trig.{atan_of}
 use Rattle.number.specs.Literals.{one_is, zero_is}
@@ -9,10 +9,6 @@ use Rattle.maths.proofs.atan.Goals as goal
 end_is : decimal 4142 10000 ≡ bits 0x3FDA_8240_B780_346E
 unfolding round of_bits
 end_is = refl
-
-pub float_from_bits-atan_at : goal.float_from_bits-atan_at
-unfolding nan_bits
-float_from_bits-atan_at c = tt
 
 pub returns-then-t : goal.returns-then-t
 unfolding atan_of when◌then◌else◌

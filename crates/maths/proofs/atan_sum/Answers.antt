@@ -1,23 +1,11 @@
--- `maths::atan_sum` meets its contract: what is left of the series does not change. Assumes nothing.
-use mathlib.Core.Path.{◌≡◌, refl, ◌∙◌}
-use native.Mathlib.Omega.{arith}
+-- `maths::atan_sum` meets its contract: the fold is the series. Assumes nothing.
 use lib.Ieee.{of_bits, of_int}
-use Rattle.number.specs.Notation.{bits, whole}
+use Rattle.std.proofs.Common.{rules, refl}
 use Rattle.number.specs.Literals.{one_is}
-use Rattle.maths.specs.Series.{one_less, none_left}
 use Rattle.maths.specs.Trig.{atan_step, atan_sum}
+use Rattle.maths.proofs.Series.{counted}
 use Rattle.maths.proofs.atan_sum.Goals as goal
 
-last_is : bits 0x4045_8000_0000_0000 ≡ whole 43
-unfolding of_bits of_int
-last_is = refl
-
-pub loop-i-init : goal.loop-i-init
-unfolding atan_sum
-loop-i-init c = (omega arith, simp (one_is, last_is))
-
-pub loop-i-preserved : goal.loop-i-preserved
-loop-i-preserved c = (omega arith, one_less (atan_step _) _ _ _ c.loop-i-test.true (rw one_is) ∙ c.loop-i.invariant.1)
-
 pub returns : goal.returns
-returns c = none_left (atan_step _) _ _ c.loop-i-test.false ∙ c.loop-i.invariant.1
+unfolding atan_sum of_bits of_int
+returns c = counted 21 (atan_step c.args.w) c.rev.ensures.runs c.fold.ensures.runs (search (rules, one_is)) refl

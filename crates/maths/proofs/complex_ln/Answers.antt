@@ -1,32 +1,15 @@
 -- `maths::complex_ln` meets its contract. Assumes nothing.
 use mathlib.Core.Path.{sym, ◌∙◌}
-use lib.Ieee.{nan_bits}
 use Rattle.number.specs.Notation.{when◌then◌else◌}
 use Rattle.maths.specs.Cplx.{complex_ln, real_ln, other_ln}
 use Rattle.number.specs.Literals.{zero_is}
 use Rattle.maths.proofs.complex_ln.Goals as goal
 
-pub float_from_bits-pi : goal.float_from_bits-pi
-unfolding nan_bits
-float_from_bits-pi c = tt
-
-pub float_from_bits-angle_of : goal.float_from_bits-angle_of
-unfolding nan_bits
-float_from_bits-angle_of c = tt
-
-pub returns-then-sign_bit-2 : goal.returns-then-sign_bit-2
-unfolding complex_ln real_ln when◌then◌else◌
-returns-then-sign_bit-2 c =
-    let p = sym c.sign_bit-then-sign_bit.ensures ∙ c.if-sign_bit-2.true in
-    let q = sym c.sign_bit.ensures ∙ c.if-sign_bit.true in
-    simp (zero_is, c.if-im.true, p, q) (cc (c.quick_ln-size.ensures, c.abs.ensures))
-
 pub returns-then-sign_bit : goal.returns-then-sign_bit
 unfolding complex_ln real_ln when◌then◌else◌
 returns-then-sign_bit c =
-    let p = sym c.sign_bit-then-sign_bit.ensures ∙ c.if-sign_bit-2.false in
     let q = sym c.sign_bit.ensures ∙ c.if-sign_bit.true in
-    simp (zero_is, c.if-im.true, p, q) (cc (c.quick_ln-size.ensures, c.abs.ensures))
+    simp (zero_is, c.if-im.true, q) (cc (c.quick_ln-size.ensures, c.abs.ensures, c.signed.ensures))
 
 pub returns-then-im : goal.returns-then-im
 unfolding complex_ln real_ln when◌then◌else◌

@@ -1,20 +1,14 @@
 -- `maths::cos` meets its contract. Assumes nothing.
 use mathlib.Core.Path.{sym, ◌∙◌}
-use native.Mathlib.Omega.{arith}
-use Rattle.number.specs.Literals.{undefined}
+use Rattle.number.specs.Literals.{nan_is}
 use Rattle.maths.specs.Trig.{cos_of}
-use Rattle.maths.proofs.Quarters.{by_small, further}
+use Rattle.maths.proofs.Quarters.{further}
 use Rattle.maths.proofs.cos.Goals as goal
 
-pub overflow_add-q : goal.overflow_add-q
-overflow_add-q c = record { fits = omega (arith, by_small _ _ _ (sym c.turn_of.ensures ∙ c.in-By.is)) }
-
-pub returns-in-Far : goal.returns-in-Far
+pub returns-in-Some : goal.returns-in-Some
 unfolding cos_of
-returns-in-Far c = simp (sym c.turn_of.ensures ∙ c.in-Far.is, undefined)
+returns-in-Some c = simp (sym c.turn_of.ensures.value ∙ c.in-Some.is) (c.sin_by.ensures ∙ further _ _ (rw c.in-Some.is at c.turn_of.ensures.small))
 
-pub returns-in-By : goal.returns-in-By
+pub returns-in-None : goal.returns-in-None
 unfolding cos_of
-returns-in-By c =
-    let e = sym c.turn_of.ensures ∙ c.in-By.is in
-    simp e (c.sin_by.ensures ∙ further _ _ (by_small _ _ _ e))
+returns-in-None c = simp (sym c.turn_of.ensures.value ∙ c.in-None.is, nan_is)

@@ -1,25 +1,24 @@
 -- `maths::exp` meets its contract. Assumes nothing.
-use mathlib.Core.Path.{◌≡◌, refl, sym, ◌∙◌, subst}
+use mathlib.Core.Path.{◌≡◌, refl, sym, ◌∙◌}
 use mathlib.Core.Bool.{false}
 use Prim.Native.Nat.{◌<◌, ◌^◌, ◌+◌}
 use native.Mathlib.Omega.{arith}
 use lib.Dec.{T, lit≤}
 use lib.IntN.{negsuc}
 use lib.Signed.{mag}
-use lib.Ieee.{binary64, is_nan, mul, neg, nan_bits, of_bits, of_int}
-use lib.Ieee.Compare.{differs_from_itself}
+use lib.Ieee.{binary64, is_nan, mul, neg, of_bits, of_int}
 use mir.Syntax.{w64}
 use mir.ValLaws.{to_z-of_z}
 use Rattle.number.specs.Near.{nearest, below}
 use Rattle.number.specs.Notation.{when◌then◌else◌, whole, integer, bits}
 use Rattle.maths.specs.Exp.{exp_of, exp_at}
-use Rattle.number.specs.Order.{nan_test}
-use Rattle.number.specs.Literals.{zero_is, infinite}
+use Rattle.number.specs.Order.{only_nan}
+use Rattle.number.specs.Literals.{zero_is, infinity_is}
 use Rattle.number.specs.Cast.{again}
 use Rattle.number.specs.Below.{wider, nearest_small}
 use Rattle.maths.proofs.Range.{bounded, times_log}
 use Rattle.maths.proofs.exp.Goals as goal
-use Rattle.maths.proofs.exp.Goals.{After-nearest-k, Else-x, Else-x-3}
+use Rattle.maths.proofs.exp.Goals.{After-nearest-k, Else-is_nan, Else-x-2}
 
 most : whole 710 ≡ bits 0x4086_3000_0000_0000
 unfolding of_int of_bits
@@ -29,38 +28,26 @@ least : integer (negsuc 745) ≡ neg (bits 0x4087_5000_0000_0000)
 unfolding of_int of_bits neg
 least = refl
 
-real : (c : Else-x) → is_nan c.args.x ≡ false
-real c = nan_test c.args.x ∙ c.if-x.false
+real : (c : Else-is_nan) → is_nan c.args.x ≡ false
+real c = sym c.is_nan.ensures.value ∙ c.if-is_nan.false
+
+pub returns-then-is_nan : goal.returns-then-is_nan
+unfolding exp_of when◌then◌else◌
+returns-then-is_nan c = let e = sym c.is_nan.ensures.value ∙ c.if-is_nan.true in simp e (only_nan c.args.x e)
 
 pub returns-then-x : goal.returns-then-x
 unfolding exp_of when◌then◌else◌
-returns-then-x c = simp (nan_test, c.if-x.true) (differs_from_itself c.args.x (subst T (sym c.if-x.true) tt))
+returns-then-x c = simp (real (goal.at.returns-then-x c).Else-is_nan, most, c.if-x.true, infinity_is)
 
 pub returns-then-x-2 : goal.returns-then-x-2
 unfolding exp_of when◌then◌else◌
-returns-then-x-2 c = simp (real (goal.at.returns-then-x-2 c).Else-x, most, c.if-x-2.true, infinite)
+returns-then-x-2 c = simp (real (goal.at.returns-then-x-2 c).Else-is_nan, most, least, c.if-x.false, c.if-x-2.true, zero_is)
 
-pub returns-then-x-3 : goal.returns-then-x-3
-unfolding exp_of when◌then◌else◌
-returns-then-x-3 c = simp (real (goal.at.returns-then-x-3 c).Else-x, most, least, c.if-x-2.false, c.if-x-3.true, zero_is)
-
-pub float_from_bits-nearest : goal.float_from_bits-nearest
-unfolding nan_bits
-float_from_bits-nearest c = tt
-
-near : (c : Else-x-3) → T (below 1501 (mul binary64 c.args.x (of_bits binary64 0x3FF71547652B82FE)))
-near c = times_log _ (bounded c.args.x (real c.before.before) c.if-x-2.false c.if-x-3.false)
+near : (c : Else-x-2) → T (below 1501 (mul binary64 c.args.x (of_bits binary64 0x3FF71547652B82FE)))
+near c = times_log _ (bounded c.args.x (real c.before.before) c.if-x.false c.if-x-2.false)
 
 pub nearest-k-requires : goal.nearest-k-requires
-nearest-k-requires c = wider 1501 (2 ^ 52) _ (lit≤ tt) (near (goal.at.nearest-k-requires c).Else-x-3)
-
-pub float_from_bits-r : goal.float_from_bits-r
-unfolding nan_bits
-float_from_bits-r c = tt
-
-pub float_from_bits-r-2 : goal.float_from_bits-r-2
-unfolding nan_bits
-float_from_bits-r-2 c = tt
+nearest-k-requires c = wider 1501 (2 ^ 52) _ (lit≤ tt) (near (goal.at.nearest-k-requires c).Else-x-2)
 
 k_is : (c : After-nearest-k) → again c.nearest-k.result ≡ c.nearest-k.result
 k_is c = to_z-of_z w64 c.nearest-k.result (record { sfits = c.nearest-k.type_inv })
@@ -81,5 +68,5 @@ pub returns : goal.returns
 unfolding exp_of exp_at when◌then◌else◌
 returns c =
     let k = k_is (goal.at.returns c).After-nearest-k in
-    simp (real (goal.at.returns c).Else-x, most, least, c.if-x-2.false, c.if-x-3.false)
+    simp (real (goal.at.returns c).Else-is_nan, most, least, c.if-x.false, c.if-x-2.false)
     (cc (k, c.nearest-k.ensures, c.float_of-n.ensures, c.exp_sum.ensures, c.scale.ensures))

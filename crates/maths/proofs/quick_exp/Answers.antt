@@ -1,14 +1,10 @@
 -- `maths::quick_exp` meets its contract. Assumes nothing.
 use mathlib.Core.Path.{sym, ap, ◌∙◌}
-use lib.Ieee.{eq, of_bits, nan_bits}
+use lib.Ieee.{eq, of_bits}
 use Rattle.number.specs.Order.{passed}
 use Rattle.number.specs.Literals.{one_is}
 use Rattle.maths.specs.Zeros.{exp_zero, exp_one}
 use Rattle.maths.proofs.quick_exp.Goals as goal
-
-pub float_from_bits-result : goal.float_from_bits-result
-unfolding nan_bits
-float_from_bits-result c = tt
 
 pub returns-then-x : goal.returns-then-x
 unfolding of_bits

@@ -1,22 +1,18 @@
--- `maths::scale` meets its contract. Assumes nothing.
-use mathlib.Core.Path.{ap, ◌∙◌}
-use Rattle.maths.specs.Exp.{scaled, two^}
-use Rattle.maths.proofs.Halves.{a_is, a_small, rest_fits, rest_is, rest_ok}
+-- `maths::scale` meets its contract: k and its two parts fit an i64. Assumes nothing.
+use lib.IntN.{◌-ℤ◌}
+use lib.Signed.{shr_z}
+use mir.Syntax.{w64}
+use mir.Val.{SFits}
+use mir.ValLaws.{to_z-of_z}
+use Rattle.std.proofs.Common.{arith}
+use Rattle.std.proofs.lemmas.Grind.{common_steps}
+use Rattle.maths.specs.Exp.{scaled}
 use Rattle.maths.proofs.scale.Goals as goal
-
-pub two_to-requires : goal.two_to-requires
-two_to-requires c = a_small c.args.k c.requires c.ranges.k
-
-pub overflow_sub-k : goal.overflow_sub-k
-overflow_sub-k c = rest_fits c.args.k c.requires c.ranges.k
-
-pub two_to-requires-2 : goal.two_to-requires-2
-two_to-requires-2 c = rest_ok c.args.k c.requires c.ranges.k
 
 pub returns : goal.returns
 unfolding scaled
 returns c =
-    let s = c.args.s in
-    let p = c.two_to.ensures ∙ ap two^ (a_is c.args.k c.requires c.ranges.k) in
-    let q = c.two_to-2.ensures ∙ ap two^ (rest_is c.args.k c.requires c.ranges.k) in
-    cc
+    let f = c.ranges.k in
+    let h : SFits w64 (shr_z c.args.k 2) = grind (arith, common_steps) in
+    let r : SFits w64 (c.args.k -ℤ shr_z c.args.k 2) = grind (arith, common_steps) in
+    simp (c.two_to.ensures, c.two_to-2.ensures, to_z-of_z)

@@ -63,17 +63,8 @@ float_to_bits-b c = real c.args.x c.requires
 pub overflow_sub-z : goal.overflow_sub-z
 overflow_sub-z c = (low (goal.at.overflow_sub-z c).Then-field-eq0).zeros
 
-pub overflow_cast-z : goal.overflow_cast-z
-overflow_cast-z c = record { fits = omega (arith, (low (goal.at.overflow_cast-z c).Then-field-eq0).few) }
-
-pub overflow_shl-fraction : goal.overflow_shl-fraction
-overflow_shl-fraction c = omega (arith, (low (goal.at.overflow_shl-fraction c).Then-field-eq0).few)
-
 pub of_digits-requires : goal.of_digits-requires
 of_digits-requires c = rw (word _ (low (goal.at.of_digits-requires c).Then-field-eq0).lt) ((low (goal.at.of_digits-requires c).Then-field-eq0).ge, (low (goal.at.of_digits-requires c).Then-field-eq0).lt)
-
-pub overflow_cast-result : goal.overflow_cast-result
-overflow_cast-result c = record { sfits = omega (arith, (low (goal.at.overflow_cast-result c).Then-field-eq0).few) }
 
 shift_is : (c : Then-field-eq0) → to_z w64 (count_leading_zeros 64 (bit_and (to_bits binary64 c.args.x) 0xf_ffff_ffff_ffff) - 11) ≡ pos (count_leading_zeros 64 (bit_and (to_bits binary64 c.args.x) 0xf_ffff_ffff_ffff) - 11)
 shift_is c = plain _ (omega (arith, (low c).few))
@@ -86,12 +77,6 @@ field_lt c = omega (arith, to_bits-lt binary64 c.args.x (held c))
 
 field_is : (c : Start) → to_z w64 (to_bits binary64 c.args.x / 0x10_0000_0000_0000) ≡ pos (to_bits binary64 c.args.x / 0x10_0000_0000_0000)
 field_is c = plain _ (omega (arith, field_lt c))
-
-pub overflow_add-fraction : goal.overflow_add-fraction
-overflow_add-fraction c = rw mask (record { fits = omega arith })
-
-pub of_digits-requires-else-field-eq0 : goal.of_digits-requires-else-field-eq0
-of_digits-requires-else-field-eq0 c = rw mask (omega arith)
 
 pub overflow_cast-result-else-field-eq0 : goal.overflow_cast-result-else-field-eq0
 overflow_cast-result-else-field-eq0 c = record { sfits = omega (arith, field_lt (goal.at.overflow_cast-result-else-field-eq0 c).Start) }

@@ -4,7 +4,7 @@ use Prim.Native.Nat.{◌+◌, ◌^◌, ◌<◌}
 use native.Mathlib.Omega.{arith}
 use lib.Dec.{T, lit≤}
 use lib.Signed.{mag}
-use lib.Ieee.{binary64, mul, of_bits, nan_bits}
+use lib.Ieee.{binary64, mul, of_bits}
 use mir.Syntax.{w64}
 use mir.ValLaws.{to_z-of_z}
 use Rattle.number.specs.Near.{nearest, below}
@@ -13,10 +13,6 @@ use Rattle.number.specs.Below.{wider, nearest_small}
 use Rattle.maths.proofs.Range.{times_quarter}
 use Rattle.maths.proofs.turns_of.Goals as goal
 use Rattle.maths.proofs.turns_of.Goals.{Start}
-
-pub float_from_bits-nearest : goal.float_from_bits-nearest
-unfolding nan_bits
-float_from_bits-nearest c = tt
 
 near : (c : Start) → T (below (2 ^ 20 + 2) (mul binary64 c.args.b (of_bits binary64 0x3FE45F306DC9C883)))
 near c = times_quarter c.args.b c.requires

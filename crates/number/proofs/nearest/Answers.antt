@@ -1,7 +1,7 @@
 -- `number::nearest` meets its contract. Assumes nothing.
-use Rattle.std.proofs.Common.{T, sym, subst, lit<}
+use Rattle.std.proofs.Common.{T, sym, subst}
 use lib.Ieee.{binary64, mul, of_bits}
-use Rattle.number.proofs.Whole.{Doubled, doubled, in_range, sub_ok, div_ok, down_is, add_ok, div_ok', up_is}
+use Rattle.number.proofs.Whole.{Doubled, doubled, in_range, sub_ok, down_is, add_ok, up_is}
 use Rattle.number.proofs.nearest.Goals as goal
 use Rattle.number.proofs.nearest.Goals.{Start}
 
@@ -16,14 +16,8 @@ truncating_f64_to_i64-t-requires c =
 pub overflow_sub-result : goal.overflow_sub-result
 overflow_sub-result c = sub_ok (d (goal.at.overflow_sub-result c).Start) c.truncating_f64_to_i64-t.ensures c.if-t-lt0.true
 
-pub nonzero_div-result : goal.nonzero_div-result
-nonzero_div-result c = (lit< tt, div_ok (d (goal.at.nonzero_div-result c).Start) c.truncating_f64_to_i64-t.ensures c.if-t-lt0.true)
-
 pub overflow_add-result : goal.overflow_add-result
 overflow_add-result c = add_ok (d (goal.at.overflow_add-result c).Start) c.truncating_f64_to_i64-t.ensures c.if-t-lt0.false
-
-pub nonzero_div-result-else-t-lt0 : goal.nonzero_div-result-else-t-lt0
-nonzero_div-result-else-t-lt0 c = (lit< tt, div_ok' (d (goal.at.nonzero_div-result-else-t-lt0 c).Start) c.truncating_f64_to_i64-t.ensures c.if-t-lt0.false)
 
 pub returns-then-t-lt0 : goal.returns-then-t-lt0
 returns-then-t-lt0 c = down_is (d (goal.at.returns-then-t-lt0 c).Start) c.truncating_f64_to_i64-t.ensures c.if-t-lt0.true

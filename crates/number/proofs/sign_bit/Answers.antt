@@ -1,17 +1,24 @@
--- `number::sign_bit` meets its contract. Assumes nothing.
-use Rattle.std.proofs.Common.{Bool, not, T, sym, ap, ◌∙◌, subst}
-use lib.Ieee.Compare.{differs_from_itself}
+-- `number::sign_bit` meets its contract: the library's sign is the definition's. Assumes nothing.
+use Rattle.std.proofs.Common.{◌≡◌, not, sym, refl, ap, ◌∙◌, true}
+use lib.Ieee.{Float, nan, inf, fin, is_nan}
+use Rattle.std.specs.Float.{is_sign_negative}
 use Rattle.number.specs.Sign.{sign_bit}
-use Rattle.number.specs.Order.{nan_test}
-use Rattle.number.proofs.Signs.{sign_is}
 use Rattle.number.proofs.sign_bit.Goals as goal
 
-pub returns-then-x : goal.returns-then-x
-unfolding sign_bit
-returns-then-x c = ap sign_bit (sym (differs_from_itself c.args.x (subst T (sym c.if-x.true) tt)))
+same : (x : Float) → is_sign_negative x ≡ sign_bit x
+unfolding is_sign_negative sign_bit
+same nan = refl
+same (inf s) = refl
+same (fin s m e) = refl
 
-pub float_to_bits-result : goal.float_to_bits-result
-float_to_bits-result c = subst (λ (b : Bool). T (not b)) (sym (nan_test c.args.x ∙ c.if-x.false)) tt
+unsigned : (x : Float) → is_nan x ≡ true → not (is_nan x) ≡ sign_bit x
+unfolding is_nan sign_bit
+unsigned nan h = refl
+unsigned (inf s) h = cc
+unsigned (fin s m e) h = cc
 
-pub returns : goal.returns
-returns c = sign_is c.args.x (subst T (sym c.well_formed.0.1) tt) (nan_test c.args.x ∙ c.if-x.false)
+pub returns-then-not-is_nan : goal.returns-then-not-is_nan
+returns-then-not-is_nan c = c.is_sign_negative.ensures ∙ same c.args.x
+
+pub returns-else-not-is_nan : goal.returns-else-not-is_nan
+returns-else-not-is_nan c = ap not c.is_nan.ensures.value ∙ unsigned c.args.x (sym c.is_nan.ensures.value ∙ c.if-not-is_nan.false)

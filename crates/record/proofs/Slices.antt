@@ -1,0 +1,36 @@
+-- A part of a list as the code reads and writes it, and as the definitions of bytes do. Assumes nothing.
+use borrow.Rule.Slice.PartMut.{put_mid}
+use Rattle.std.proofs.Common.{◌≡◌, ℕ, ◌+◌, ◌-◌, ◌/◌, ◌%◌, ◌^◌, ◌<◌, ◌≤◌, List, length, get_or, take, drop, sym, ap, ◌∙◌, arith, append_assoc}
+use Rattle.std.proofs.lemmas.List.{get_or-drop, get_or-take, drop-drop}
+use Rattle.std.proofs.lemmas.List.Edits.{sets, sets-eq}
+use Rattle.std.specs.List.{slice_index}
+use Rattle.std.specs.Int.{w64, to_le_bytes}
+use Rattle.record.specs.Bytes.{u32_bytes, u64_bytes}
+use Rattle.std.specs.Array.{IsFirstChunk}
+
+-- the first n of what stands from `at` on
+pub chunk_at : (b : List ℕ) {y : List ℕ} (at n : ℕ) → IsFirstChunk (take (length b - at) (drop at b)) y n → at + n ≤ length b
+    → (k i : ℕ) → k < n → at + k ≡ i → slice_index y k ≡ get_or b i 0
+chunk_at b at n c h k i l e =
+    rw (← e)
+    (ap (λ (z : List ℕ). get_or z k 0) c.same ∙ get_or-take n _ k 0 l
+    ∙ get_or-take (length b - at) (drop at b) k 0 (omega arith) ∙ get_or-drop at b k 0)
+
+-- k bytes written over `b[at..at + k]`
+pub put_at : (b zs : List ℕ) {ys : List ℕ} (at k : ℕ) → at + k ≤ length b → length zs ≡ k → ys ≡ zs → put_mid at (at + k - at) b ys ≡ sets b at zs
+put_at b zs at k h l e =
+    let n : at + k - at ≡ length zs = omega arith in
+    rw (e, n, sets-eq zs b at (omega arith), drop-drop) (sym (append_assoc (take at b) zs _))
+
+-- the bytes of a number of 64 bits, as those of its two halves
+pub eight : (n : ℕ) → to_le_bytes w64 n ≡ u64_bytes n
+unfolding u64_bytes u32_bytes
+eight n =
+    let a : n % 256 ≡ n % 2 ^ 32 % 256 = omega arith in
+    let b : n / 256 % 256 ≡ n % 2 ^ 32 / 256 % 256 = omega arith in
+    let c : n / 65536 % 256 ≡ n % 2 ^ 32 / 65536 % 256 = omega arith in
+    let d : n / 16777216 % 256 ≡ n % 2 ^ 32 / 16777216 % 256 = omega arith in
+    let e : n / 2 ^ 40 % 256 ≡ n / 2 ^ 32 / 256 % 256 = omega arith in
+    let f : n / 2 ^ 48 % 256 ≡ n / 2 ^ 32 / 65536 % 256 = omega arith in
+    let g : n / 2 ^ 56 % 256 ≡ n / 2 ^ 32 / 16777216 % 256 = omega arith in
+    cc
