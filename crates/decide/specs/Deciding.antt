@@ -1,24 +1,20 @@
 -- `decide_forall` and `decide_exists` (document 01, "The rest"; helpers.rs). σ are the settings; variable v of n lies in [lo, hi].
-use Rattle.std.specs.Prelude.{ℕ, ◌^◌, Bool, true, false, not, ◌&&◌, List, [], ◌∷◌, leb, length, replicate, set, Float}
+use Rattle.std.specs.Prelude.{ℕ, ◌^◌, Bool, true, false, not, ◌&&◌, List, [], ◌∷◌, Option, Some, None, Result, Ok, Err, leb, replicate, set, Float}
+use Rattle.std.specs.List.{find}
 use Rattle.std.specs.Float.{binary64}
 use Rattle.std.specs.Float.Ieee.{neg}
-use Rattle.number.specs.Notation.{when◌then◌else◌, whole, decimal, ◌⊕◌, ◌⊖◌, ◌⊗◌}
+use Rattle.number.specs.Notation.{whole, decimal, ◌⊕◌, ◌⊖◌, ◌⊗◌}
 use Rattle.number.specs.Halving.{mid}
 use Rattle.number.specs.Sound.{sound}
 use Rattle.settings.specs.declared.Settings.{Settings}
 use Rattle.interval.specs.declared.Interval.{Interval}
 use Rattle.interval.specs.Interval.{◌‥◌}
-use Rattle.interval.specs.Boxes.{padded}
 use Rattle.record.specs.Refusal.{◌or_else◌, ◌unless◌, refused_or}
 use Rattle.constraint.specs.Constraint.{Constraint, Not}
 use Rattle.normal.specs.NormalForm.{to_nnf}
 use Rattle.file.specs.File.{Read, Refused, Accepted, read_given}
 use Rattle.point.specs.Check.{check}
 use Rattle.narrow.specs.Narrowing.{is_conflict, propagate}
-use Rattle.decide.specs.declared.Found.{Found}
-use Rattle.decide.specs.declared.Found.TheVariants.{Nowhere, At}
-use Rattle.decide.specs.declared.Verdict.{Verdict}
-use Rattle.decide.specs.declared.Decided.{Decided}
 
 -- a witness or a counterexample is its point
 pub data QuantResult : Type 0 where
@@ -43,11 +39,6 @@ exists_samples lo hi =
     let width = hi ⊖ lo in
     mid binary64 lo hi ∷ lo ∷ hi ∷ (lo ⊕ decimal 1 4 ⊗ width) ∷ (lo ⊕ decimal 3 4 ⊗ width) ∷ []
 
--- the first of them that meets the test
-unfoldable pub first : (Float → Bool) → List Float → Found
-first test [] = Nowhere
-first test (x ∷ xs) = when test x then At x else first test xs
-
 -- ---- the decisions
 
 -- the variable in its range, every other one in [-1e10, 1e10]
@@ -59,33 +50,23 @@ unfoldable pub refutes : Settings → Constraint → List Interval → Bool
 refutes σ c b = is_conflict (propagate σ (to_nnf (Not c)) b).answer
 
 -- by whether the negation is refuted, and the first sample that fails
-unfoldable pub forall_by : ℕ → ℕ → Bool → Found → QuantResult
+unfoldable pub forall_by : ℕ → ℕ → Bool → Option Float → QuantResult
 forall_by n v true f = True
-forall_by n v false Nowhere = Unknown
-forall_by n v false (At x) = FalseWithCounterexample (point_at n v x)
+forall_by n v false None = Unknown
+forall_by n v false (Some x) = FalseWithCounterexample (point_at n v x)
 
 unfoldable pub decide_forall : Settings → ℕ → Float → Float → Constraint → ℕ → QuantResult
-decide_forall σ v lo hi c n = forall_by n v (refutes σ c (boxes_at n v (lo ‥ hi))) (first (λ x. not (check σ (point_at n v x) c)) (forall_samples lo hi))
+decide_forall σ v lo hi c n = forall_by n v (refutes σ c (boxes_at n v (lo ‥ hi))) (find (λ x. not (check σ (point_at n v x) c)) (forall_samples lo hi))
 
 -- by the first sample that passes
-unfoldable pub exists_by : ℕ → ℕ → Found → QuantResult
-exists_by n v Nowhere = Unknown
-exists_by n v (At x) = TrueWithWitness (point_at n v x)
+unfoldable pub exists_by : ℕ → ℕ → Option Float → QuantResult
+exists_by n v None = Unknown
+exists_by n v (Some x) = TrueWithWitness (point_at n v x)
 
 unfoldable pub decide_exists : Settings → ℕ → Float → Float → Constraint → ℕ → QuantResult
-decide_exists σ v lo hi c n = exists_by n v (first (λ x. check σ (point_at n v x) c) (exists_samples lo hi))
+decide_exists σ v lo hi c n = exists_by n v (find (λ x. check σ (point_at n v x) c) (exists_samples lo hi))
 
--- ---- as the code has it
-
-abbrev pub decided : ℕ → Verdict → List Float → Decided
-decided refusal verdict p = record { refusal = refusal; verdict = verdict; count = length p; point = padded p }
-
-abbrev pub verdict_of : QuantResult → Verdict
-verdict_of True = Verdict.True
-verdict_of (TrueWithWitness p) = Verdict.TrueWithWitness
-verdict_of (FalseWithCounterexample p) = Verdict.FalseWithCounterexample
-verdict_of Unknown = Verdict.Unknown
-
+-- ---- as a caller receives it
 abbrev pub point_of : QuantResult → List Float
 point_of True = []
 point_of (TrueWithWitness p) = p
@@ -93,19 +74,11 @@ point_of (FalseWithCounterexample p) = p
 point_of Unknown = []
 
 -- the numbers of the verdicts, in the Rust's order
-abbrev pub verdict_number : Verdict → ℕ
-verdict_number Verdict.True = 0
-verdict_number Verdict.TrueWithWitness = 1
-verdict_number Verdict.FalseWithCounterexample = 2
-verdict_number Verdict.Unknown = 3
-
--- refusal 0 is none
-unfoldable pub decided_of : QuantResult → Decided
-decided_of q = decided 0 (verdict_of q) (point_of q)
-
--- a refusal is its number only: the rest is the same in each
-abbrev pub undecided : ℕ → Decided
-undecided r = decided r Verdict.Unknown []
+abbrev pub verdict_number : QuantResult → ℕ
+verdict_number True = 0
+verdict_number (TrueWithWitness p) = 1
+verdict_number (FalseWithCounterexample p) = 2
+verdict_number Unknown = 3
 
 -- ---- the calls on records; document 01's have the settings `usual`. `room` is how many places there are for a point.
 
@@ -118,12 +91,12 @@ unfoldable pub later_refusal : Float → Float → ℕ → ℕ → ℕ
 later_refusal lo hi n room = range_refusal lo hi n or_else 10 unless leb n room
 
 -- the records' own refusal, 2 to 7, then those
-abbrev pub decided_by : Read → ℕ → (Constraint → QuantResult) → Decided
-decided_by (Refused r) later decide = undecided r
-decided_by (Accepted c bounds) later decide = refused_or later undecided (decided_of (decide c))
+abbrev pub decided_by : Read → ℕ → (Constraint → QuantResult) → Result QuantResult ℕ
+decided_by (Refused r) later decide = Err r
+decided_by (Accepted c bounds) later decide = refused_or later Err (Ok (decide c))
 
-unfoldable pub decide_forall_given : Settings → List ℕ → List ℕ → ℕ → Float → Float → ℕ → ℕ → Decided
+unfoldable pub decide_forall_given : Settings → List ℕ → List ℕ → ℕ → Float → Float → ℕ → ℕ → Result QuantResult ℕ
 decide_forall_given σ nodes b v lo hi n room = decided_by (read_given nodes b) (later_refusal lo hi n room) λ c. decide_forall σ v lo hi c n
 
-unfoldable pub decide_exists_given : Settings → List ℕ → List ℕ → ℕ → Float → Float → ℕ → ℕ → Decided
+unfoldable pub decide_exists_given : Settings → List ℕ → List ℕ → ℕ → Float → Float → ℕ → ℕ → Result QuantResult ℕ
 decide_exists_given σ nodes b v lo hi n room = decided_by (read_given nodes b) (later_refusal lo hi n room) λ c. decide_exists σ v lo hi c n

@@ -1,22 +1,52 @@
--- What the code's question stands for: its points and boxes, and the test of a sample.
-use Rattle.std.specs.Prelude.{Bool, true, false, not, List, Float}
+-- What the code's question and its answers stand for.
+use Rattle.std.specs.Prelude.{ℕ, Bool, true, false, not, List, Float, Result, Ok, Err}
+use Rattle.record.specs.Refused.{number_of}
+use Rattle.record.specs.declared.refusal.Refusal.{Refusal}
 use Rattle.interval.specs.declared.Interval.{Interval}
-use Rattle.interval.specs.Interval.{◌‥◌}
-use Rattle.constraint.specs.Constraint.{Constraint}
+use Rattle.interval.specs.Views.{values_of}
+use Rattle.constraint.specs.Views.{the_constraint}
 use Rattle.point.specs.Check.{check}
-use Rattle.decide.specs.declared.Question.{Question}
-use Rattle.decide.specs.Deciding.{point_at, boxes_at}
+use Rattle.decide.specs.declared.Verdict.{Verdict}
+use Rattle.decide.specs.declared.question.Question.{Question}
+use Rattle.decide.specs.Deciding.{QuantResult, point_at, boxes_at, decide_forall, decide_exists}
 
+-- ---- a question: its points and boxes, the test of a sample, the decisions
 abbrev pub sample_of : Question → Float → List Float
 sample_of q x = point_at q.count q.var x
 
-abbrev pub box_of : Question → Float → Float → List Interval
-box_of q lo hi = boxes_at q.count q.var (lo ‥ hi)
+abbrev pub box_of : Question → List Interval
+box_of q = boxes_at q.count q.var q.range
 
 -- whether a check answers as the search wants it to: to pass, or to fail
 abbrev pub answers_as : Bool → Bool → Bool
 answers_as true passes = passes
 answers_as false passes = not passes
 
-abbrev pub answers_at : Question → Bool → Constraint → Float → Bool
-answers_at q wanted c x = answers_as wanted (check q.settings (sample_of q x) c)
+abbrev pub answers_at : Question → Bool → Float → Bool
+answers_at q wanted x = answers_as wanted (check q.settings (sample_of q x) (the_constraint q.records))
+
+abbrev pub for_all : Question → QuantResult
+for_all q = decide_forall q.settings q.var q.range.lo q.range.hi (the_constraint q.records) q.count
+
+abbrev pub exists : Question → QuantResult
+exists q = decide_exists q.settings q.var q.range.lo q.range.hi (the_constraint q.records) q.count
+
+-- ---- an answer
+abbrev pub result_of : Verdict → QuantResult
+result_of Verdict.True = QuantResult.True
+result_of (Verdict.TrueWithWitness p) = QuantResult.TrueWithWitness (values_of p)
+result_of (Verdict.FalseWithCounterexample p) = QuantResult.FalseWithCounterexample (values_of p)
+result_of Verdict.Unknown = QuantResult.Unknown
+
+-- a verdict, or the number of a refusal
+abbrev pub answered : Result Verdict Refusal → Result QuantResult ℕ
+answered (Ok v) = Ok (result_of v)
+answered (Err r) = Err (number_of r)
+
+-- ---- a question about given records
+pub record Asks (nodes b : List ℕ) (v : ℕ) (i : Interval) (n : ℕ) (q : Question) : Type 0 where
+  pub constraint_is : read_given nodes b ≡ Accepted (the_constraint q.records) []
+  pub settings_are : q.settings ≡ usual
+  pub var_is : q.var ≡ v
+  pub range_is : q.range ≡ i
+  pub count_is : q.count ≡ n

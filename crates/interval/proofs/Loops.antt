@@ -53,9 +53,6 @@ module _ (b : List Interval) (i : ℕ) (values : List Float) where
       ap (λ (l : List Float). set l i x) e ∙ padded_more (midpoints b) i x (omega (arith, midpoints_length b)) (omega (arith, midpoints_length b))
       (w ∙ sym (get_or-map midpoint b i d nan h))
 
-  pub midpoints_done : length b ≤ i → values ≡ padded (take i (midpoints b)) → values ≡ padded (midpoints b)
-  midpoints_done h e = e ∙ ap padded (take_all i (midpoints b) (omega (arith, midpoints_length b)))
-
 -- ---- the widest of the boxes
 module _ (b : List Interval) (i : ℕ) (d : Interval) where
   after : i < length b → drop i b ≡ get_or b i d ∷ drop (i + 1) b

@@ -124,11 +124,6 @@ pub padded_places : (m : List Float) → m ++ drop (length m) (replicate 16 (who
 unfolding padded
 padded_places m = ap (λ (r : List Float). m ++ r) (drop-replicate (length m) 16 (whole 0))
 
-pub set_past : {A : Type 0} (l : List A) (i : ℕ) (a : A) → length l ≤ i → set l i a ≡ l
-set_past [] i a h = refl
-set_past (x ∷ xs) zero a h = absurd (omega arith)
-set_past {A} (x ∷ xs) (suc i) a h = ap (λ (r : List A). x ∷ r) (set_past xs i a (le_of_suc-le-suc h))
-
 -- the places of a point: those past its n values are 0
 pub zeros_blank : (n : ℕ) → n ≤ 16 → replicate 16 (whole 0) ≡ padded (take n (replicate 16 (whole 0)))
 zeros_blank n h = rw (take-replicate n 16 (whole 0) h) (padded_zeros n h)

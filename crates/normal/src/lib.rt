@@ -33,12 +33,12 @@ fn kept_of(r: Record) -> usize
     ensures { (result ≡ kept_of r) × (result ≤ 1) }
 {
     match r {
-        Record::Atom(_, _) => 1,
         Record::Not => 0,
-        Record::And(_) => 1,
-        Record::Or(_) => 1,
-        Record::ForAll(_, _, _) => 1,
-        Record::Exists(_, _, _) => 1,
+        Record::Atom(_, _)
+        | Record::And(_)
+        | Record::Or(_)
+        | Record::ForAll(_, _, _)
+        | Record::Exists(_, _, _) => 1,
     }
 }
 

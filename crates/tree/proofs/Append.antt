@@ -52,9 +52,16 @@ module _ (b : List ℕ) (n x y m : ℕ) (t : Tree) where
   pub late : 0 ≡ operands_refusal b n x y → (e : Extent) → IsExtent t e → result_refusal (length b) n m e ≡ append_refusal b n (ltb x n && ltb y n) t m
   late none e h = ap (λ (r : ℕ). r or_else result_refusal (length b) n m e) none ∙ parts e h
 
-pub ln_is : (b : List ℕ) (n x : ℕ) → append_refusal b n (ltb x n && ltb x n) (ln_tree (tree_at b x)) 4 ≡ ln_refusal b n x
-unfolding ln_refusal
-ln_is b n x = simp and_self
+module _ (b : List ℕ) (n x : ℕ) where
+  ln_is : append_refusal b n (ltb x n && ltb x n) (ln_tree (tree_at b x)) 4 ≡ ln_refusal b n x
+  unfolding ln_refusal
+  ln_is = simp and_self
+
+  pub ln_early : (r : Refusal) → number_of r ≡ operands_refusal b n x x → number_of r ≡ ln_refusal b n x
+  ln_early r e = early b n x x 4 (ln_tree (tree_at b x)) r e ∙ ln_is
+
+  pub ln_late : 0 ≡ operands_refusal b n x x → (e : Extent) → IsExtent (ln_tree (tree_at b x)) e → result_refusal (length b) n 4 e ≡ ln_refusal b n x
+  ln_late none e h = late b n x x 4 (ln_tree (tree_at b x)) none e h ∙ ln_is
 
 -- ---- the outcome
 module _ (b : List ℕ) (n : ℕ) (xs : List Node) (last : ℕ) {s : ℕ} where
@@ -63,3 +70,8 @@ module _ (b : List ℕ) (n : ℕ) (xs : List Node) (last : ℕ) {s : ℕ} where
 
   pub append_done : 0 ≡ s → {b' : List ℕ} → b' ≡ sets b (16 * n) (nodes_bytes xs) → (Ok last leaving b') ≡ append s b n xs last
   append_done z e = is_answered (λ (k : ℕ). Err k leaving b) _ refl (sym z) (ap (λ (l : List ℕ). Ok last leaving l) e)
+
+-- for the tests of an append, and for what it leaves
+pub ruleset append_tests = (unnamed, named, operands_known, refuses_first, early, late, ln_early, ln_late)
+
+pub ruleset append_ends = (append_refused, append_done)

@@ -1,39 +1,37 @@
 -- What the tests of a list know of the nodes that they have passed. Assumes nothing.
-use Prim.Native.Nat.{ℕ, suc, ◌+◌, max, ◌<◌}
-use Rattle.std.specs.Prelude.{◌≡◌, true, false, ◌&&◌, leb, List, length, get_or, set}
-use Rattle.std.proofs.Common.{ap, ap₂, sym, ◌∙◌, subst, arith, add-one, leb-true, get_or-set_same}
+use Prim.Native.Nat.{ℕ, zero, suc, ◌+◌, max, ◌<◌}
+use Rattle.std.specs.Prelude.{◌≡◌, true, false, leb, List, length, get_or, set}
+use Rattle.std.proofs.Common.{refl, ap, ap₂, sym, ◌∙◌, subst, arith, not-suc-le-zero, add-one, leb-true, get_or-set_same}
 use Rattle.std.proofs.Math.Seq.{get_or-set_other}
 use Rattle.std.proofs.Math.ListN.{length-set}
 use borrow.Author.Count.{below_more}
-use Rattle.record.specs.Refusal.{first}
-use Rattle.record.specs.RefusalLaws.{both, first_here}
-use Rattle.tree.specs.Tree.{is_small}
+use Rattle.record.specs.Refusal.{◌unless◌, first}
+use Rattle.record.specs.RefusalLaws.{both, none_more, none_unless, first_here, never_none}
+use Rattle.record.specs.Refused.{number_of}
+use Rattle.record.specs.declared.refusal.Refusal.{Refusal}
+use Rattle.tree.specs.Tree.{Tree, is_small}
 use Rattle.tree.specs.Nodes.{is_node, tree_at, node_refusal, nodes_refusal, nodes_fit, list_refusal}
-use Rattle.tree.specs.Code.{IsExtent, small_extent, Measured, Held, largest}
+use Rattle.tree.specs.Code.{IsExtent, small_extent, Measured, Held, widened, size_at, largest}
 use Rattle.tree.specs.declared.Extent.{Extent}
+use Rattle.tree.specs.NodeLaws.{fit_parts}
+use Rattle.tree.specs.declared.SmallExtent.{SmallExtent}
 
+-- ---- the tests of node k
 module _ (b : List ℕ) (k : ℕ) where
-  -- the tests of node k, by its extent
-  pub three : is_node b k ≡ false → node_refusal b k ≡ 3
+  three : is_node b k ≡ false → 3 ≡ node_refusal b k
   unfolding node_refusal
   three e = simp e
 
-  module _ (is : is_node b k ≡ true) (e : Extent) (h : IsExtent (tree_at b k) e) where
-    small_same : is_small (tree_at b k) ≡ small_extent e
-    unfolding is_small
-    small_same = ap₂ (λ (s d : ℕ). leb s 4096 && leb d 128) (sym h.0) (sym h.1)
+  pub four : is_node b k ≡ true → (e : Extent) → IsExtent (tree_at b k) e → (4 unless small_extent e) ≡ node_refusal b k
+  unfolding node_refusal is_small
+  four is e h = simp (is, sym h.0, sym h.1)
 
-    pub four : small_extent e ≡ false → node_refusal b k ≡ 4
-    unfolding node_refusal
-    four f = simp (is, small_same ∙ f)
+pub measured : (t : Tree) (e : Extent) (s : SmallExtent) → IsExtent t e → 0 ≡ (4 unless small_extent e) → (s.size ≡ e.size) × (s.depth ≡ e.depth) → Measured t (widened s)
+measured t e s h f same =
+    let w = both (leb e.size 4096) (leb e.depth 128) (none_unless 3 _ (sym f)) in
+    record { is = (same.0 ∙ h.0, same.1 ∙ h.1); small = (omega (arith, leb-true _ _ w.0), omega (arith, leb-true _ _ w.1)) }
 
-    pub passes : small_extent e ≡ true → node_refusal b k ≡ 0
-    unfolding node_refusal
-    passes f = simp (is, small_same ∙ f)
-
-    pub measured : small_extent e ≡ true → Measured (tree_at b k) e
-    measured f = let w = both (leb e.size 4096) (leb e.depth 128) f in record { is = h; small = (leb-true _ _ w.0, leb-true _ _ w.1) }
-
+-- ---- the list's
 module _ (b : List ℕ) (n : ℕ) where
   pub no_fit : nodes_fit (length b) n ≡ false → 2 ≡ list_refusal b n
   unfolding list_refusal
@@ -41,31 +39,44 @@ module _ (b : List ℕ) (n : ℕ) where
 
   module _ (fit : nodes_fit (length b) n ≡ true) (k : ℕ) (none : first (node_refusal b) k ≡ 0) where
     -- the first k nodes passed, node k is refused
-    pub refused : (r : ℕ) → k < n → node_refusal b k ≡ suc r → suc r ≡ list_refusal b n
+    refused_by : (m : ℕ) → (m ≡ 0 → ⊥) → k < n → m ≡ node_refusal b k → m ≡ list_refusal b n
     unfolding list_refusal nodes_refusal
-    refused r l e = simp (fit, first_here (node_refusal b) r k none e n l)
+    refused_by zero h l e = absurd (h refl)
+    refused_by (suc m) h l e = simp (fit, first_here (node_refusal b) m k none (sym e) n l)
+
+    pub refused : (r : Refusal) → k < n → number_of r ≡ node_refusal b k → number_of r ≡ list_refusal b n
+    refused r = refused_by (number_of r) (never_none r)
+
+    pub third : k < n → is_node b k ≡ false → 3 ≡ list_refusal b n
+    third l e = refused Refusal.Node l (three b k e)
 
     -- or there is none
     pub none_refused : k ≡ n → 0 ≡ list_refusal b n
     unfolding list_refusal nodes_refusal
     none_refused e = simp (fit, sym (ap (first (node_refusal b)) e) ∙ none)
 
--- or passes too
-abbrev blank : Extent
+-- ---- what the list of extents holds
+abbrev blank : SmallExtent
 blank = record { size = 0; depth = 0 }
 
-pub held_more : (b : List ℕ) (k : ℕ) (es : List Extent) (e : Extent) → Held b k es → Measured (tree_at b k) e → k < 1024 → k < length es → Held b (k + 1) (set es k e)
+pub held_none : (b : List ℕ) (es : List SmallExtent) → Held b 0 es
+held_none b es = record { few = omega arith; there = omega arith; each = λ k l. absurd (not-suc-le-zero l) }
+
+pub held_more : (b : List ℕ) (k : ℕ) (es : List SmallExtent) (e : SmallExtent) → Held b k es → Measured (tree_at b k) (widened e) → k < 1024 → k < length es → Held b (k + 1) (set es k e)
 held_more b k es e h m few l = record {
   few = omega arith;
   there = omega (arith, length-set es k e);
-  each = below_more (λ j. Measured (tree_at b j) (get_or (set es k e) j blank)) k
-      (λ j g. subst (Measured (tree_at b j)) (sym (get_or-set_other es k j e blank (omega arith))) (h.each j g))
-      (subst (Measured (tree_at b k)) (sym (get_or-set_same es k e blank l)) m);
+  each = below_more (λ j. Measured (tree_at b j) (widened (get_or (set es k e) j blank))) k
+      (λ j g. subst (λ (a : SmallExtent). Measured (tree_at b j) (widened a)) (sym (get_or-set_other es k j e blank (omega arith))) (h.each j g))
+      (subst (λ (a : SmallExtent). Measured (tree_at b k) (widened a)) (sym (get_or-set_same es k e blank l)) m);
 }
 
-pub largest_more : (b : List ℕ) (k m : ℕ) (e : Extent) → m ≡ largest b k → IsExtent (tree_at b k) e → max m e.size ≡ largest b (k + 1)
-unfolding largest
-largest_more b k m e q h = ap₂ max q h.0 ∙ sym (ap (largest b) (add-one k))
-
-pub held_all : (b : List ℕ) (k n : ℕ) (es : List Extent) → k ≡ n → Held b k es → Held b n es
+pub held_all : (b : List ℕ) (k n : ℕ) (es : List SmallExtent) → k ≡ n → Held b k es → Held b n es
 held_all b k n es e h = subst (λ (m : ℕ). Held b m es) e h
+
+pub largest_more : (b : List ℕ) (k m u : ℕ) → m ≡ largest b k → u ≡ size_at b k → max m u ≡ largest b (k + 1)
+unfolding largest
+largest_more b k m u q h = ap₂ max q h ∙ sym (ap (largest b) (add-one k))
+
+-- for the tests of a list
+pub ruleset list_tests = (no_fit, fit_parts, four, measured, third, refused, none_refused, none_more, held_none, held_more, held_all, largest_more)

@@ -1,20 +1,19 @@
--- The test of a record goes by its kind, and the greatest of a list by one more element. Assumes nothing.
+-- The test of a record, and what is read of it, go by its kind. Assumes nothing.
 use Prim.Native.Nat.{ℕ, zero, suc, ◌+◌, ◌*◌, ◌<◌}
 use mathlib.Core.Path.{◌≡◌, refl, sym, ◌∙◌}
-use mathlib.Core.Bool.{Bool, true, false, ◌&&◌}
+use mathlib.Core.Bool.{Bool, false, ◌&&◌}
+use Rattle.std.proofs.Math.Bool.{and_assoc}
 use mathlib.Core.List.{List}
 use native.Mathlib.Omega.{arith}
 use lib.Dec.{ltb, eqb}
 use borrow.Author.Tests.{le-ltb, ne_eqb}
 use lib.Ieee.Scale.{finite}
 use Rattle.record.specs.Bytes.{u32_at, f64_at}
-use Rattle.tree.specs.Nodes.{is_node}
+use Rattle.tree.specs.Nodes.{is_node, node_at}
+use Rattle.tree.specs.declared.Node.{Node}
+use lib.Ieee.{Float}
 use Rattle.number.specs.Notation.{when◌then◌else◌}
 use Rattle.tree.specs.Code.{left_end, right_end, chosen}
-
-and_assoc : (a b c : Bool) → (a && (b && c)) ≡ ((a && b) && c)
-and_assoc true b c = refl
-and_assoc false b c = refl
 
 below_one : (n : ℕ) → ltb n 1 ≡ eqb n 0
 below_one zero = refl
@@ -28,10 +27,10 @@ node_test : (kind left right last k : ℕ) (real : Bool) →
     else when eqb kind 3 then ltb left k && ltb right k && eqb last 0
     else false)
 unfolding when◌then◌else◌
-node_test zero left right last k real = rw (below_one left, below_one right) (and_assoc (eqb left 0) (eqb right 0) (eqb last 0))
+node_test zero left right last k real = rw (below_one left, below_one right) (sym (and_assoc (eqb left 0) (eqb right 0) (eqb last 0)))
 node_test (suc zero) left right last k real = rw (below_one left) refl
-node_test (suc (suc zero)) left right last k real = rw (below_one right) (and_assoc (ltb left 16) (eqb right 0) (eqb last 0))
-node_test (suc (suc (suc zero))) left right last k real = and_assoc (ltb left k) (ltb right k) (eqb last 0)
+node_test (suc (suc zero)) left right last k real = rw (below_one right) (sym (and_assoc (ltb left 16) (eqb right 0) (eqb last 0)))
+node_test (suc (suc (suc zero))) left right last k real = sym (and_assoc (ltb left k) (ltb right k) (eqb last 0))
 node_test (suc (suc (suc (suc n)))) left right last k real = simp (le-ltb (suc (suc (suc (suc n)))) 4 (omega arith), other 0 (omega arith), other 1 (omega arith), other 2 (omega arith), other 3 (omega arith))
   where
     other : (j : ℕ) → j < 4 → eqb (suc (suc (suc (suc n)))) j ≡ false
@@ -43,3 +42,23 @@ pub node_is : (b : List ℕ) (k kind left right last : ℕ) (real : Bool) → ki
     → ((ltb kind 4 && ltb left x) && z) ≡ is_node b k
 unfolding is_node
 node_is b k kind left right last real e f g h r u v w = simp (u, w, v, sym e, sym f, sym g, sym h, sym r) (node_test kind left right last k real)
+
+-- ---- the node that `node_in` reads, by its kind
+module _ (b : List ℕ) (k kind : ℕ) (e : kind ≡ u32_at b (16 * k)) where
+  pub reads_one : kind ≡ 0 → Node.One ≡ node_at b k
+  unfolding node_at when◌then◌else◌
+  reads_one z = simp (sym e ∙ z)
+
+  pub reads_const : (v : Float) → kind ≡ 1 → v ≡ f64_at b (16 * k + 8) → Node.Const v ≡ node_at b k
+  unfolding node_at when◌then◌else◌
+  reads_const v z f = simp (sym e ∙ z, f)
+
+  pub reads_var : (i : ℕ) → kind ≡ 2 → i ≡ u32_at b (16 * k + 4) → Node.Var i ≡ node_at b k
+  unfolding node_at when◌then◌else◌
+  reads_var i z f = simp (sym e ∙ z, f)
+
+  pub reads_eml : (l r : ℕ) → (kind ≡ 0 → ⊥) → (kind ≡ 1 → ⊥) → (kind ≡ 2 → ⊥) → l ≡ u32_at b (16 * k + 4) → r ≡ u32_at b (16 * k + 8) → Node.Eml l r ≡ node_at b k
+  unfolding node_at when◌then◌else◌
+  reads_eml l r x y z f g = simp (sym e, ne_eqb _ _ x, ne_eqb _ _ y, ne_eqb _ _ z, f, g)
+
+pub ruleset node_reads = (reads_one, reads_const, reads_var, reads_eml)

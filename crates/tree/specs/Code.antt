@@ -1,20 +1,20 @@
 -- What the functions below the tests compute, in the terms of their arguments.
-use Rattle.std.specs.Prelude.{ℕ, zero, suc, ◌+◌, max, ◌≤◌, ◌<◌, ◌≡◌, Bool, ◌&&◌, List, leb, ltb, eqb, length, get_or}
-use Rattle.number.specs.Notation.{when◌then◌else◌}
+use Rattle.std.specs.Prelude.{ℕ, zero, suc, ◌+◌, max, ◌≤◌, ◌<◌, ◌≡◌, Bool, ◌&&◌, List, leb, ltb, eqb, length, get_or, if◌then◌else◌}
 use Rattle.record.specs.Refusal.{◌or_else◌, ◌unless◌}
 use Rattle.tree.specs.Tree.{Tree, size, depth}
 use Rattle.tree.specs.Nodes.{nodes_fit, tree_at, list_refusal}
 use Rattle.tree.specs.declared.Extent.{Extent}
+use Rattle.tree.specs.declared.SmallExtent.{SmallExtent}
 
 -- the ends of the numbers of a record of that kind, of node k
 abbrev pub right_end : ℕ → ℕ → ℕ
-right_end kind k = when eqb kind 3 then k else 1
+right_end kind k = if eqb kind 3 then k else 1
 
 abbrev pub left_end : ℕ → ℕ → ℕ
-left_end kind k = when eqb kind 2 then 16 else right_end kind k
+left_end kind k = if eqb kind 2 then 16 else right_end kind k
 
 abbrev pub chosen : ℕ → Bool → Bool → Bool
-chosen kind constant other = when eqb kind 1 then constant else other
+chosen kind constant other = if eqb kind 1 then constant else other
 
 abbrev pub size_at : List ℕ → ℕ → ℕ
 size_at b k = size (tree_at b k)
@@ -35,11 +35,14 @@ pub record Measured (t : Tree) (e : Extent) : Type 0 where
   pub is : IsExtent t e
   pub small : Small e
 
+abbrev pub widened : SmallExtent → Extent
+widened e = record { size = e.size; depth = e.depth }
+
 -- the list holds those of the first n nodes
-pub record Held (b : List ℕ) (n : ℕ) (es : List Extent) : Type 0 where
+pub record Held (b : List ℕ) (n : ℕ) (es : List SmallExtent) : Type 0 where
   pub few : n ≤ 1024
   pub there : n ≤ length es
-  pub each : (k : ℕ) → k < n → Measured (tree_at b k) (get_or es k (record { size = 0; depth = 0 }))
+  pub each : (k : ℕ) → k < n → Measured (tree_at b k) (widened (get_or es k (record { size = 0; depth = 0 })))
 
 -- the size of the largest of the first n trees
 unfoldable pub largest : List ℕ → ℕ → ℕ

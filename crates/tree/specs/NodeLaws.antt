@@ -142,6 +142,9 @@ module _ (b : List ℕ) (k : ℕ) (v : Valid b (k + 1)) where
   pub record_there : 16 * k + 16 ≤ length b
   record_there = omega (arith, v.there)
 
+  pub index_below : (i : ℕ) → node_at b k ≡ Node.Var i → i < 16
+  index_below i e = index_small b (k + 1) v k (omega arith) i e
+
   module _ (i j : ℕ) (e : node_at b k ≡ Node.Eml i j) where
     below : (i < k) × (j < k)
     below = children_below b (k + 1) v k (omega arith) i j e
@@ -154,3 +157,8 @@ module _ (b : List ℕ) (k : ℕ) (v : Valid b (k + 1)) where
 
     pub tree_is : tree_at b k ≡ Tree.Eml (tree_at b i) (tree_at b j)
     tree_is = tree_eml b k i j below.0 below.1 e
+
+-- for a function that goes by a node's kind
+pub ruleset node_trees = (children, tree_one, tree_const, tree_var, tree_eml)
+
+pub ruleset valid_trees = (record_there, index_below, at_left, at_right, tree_is)

@@ -1,12 +1,13 @@
 // Numbered nodes (document 01, "The file"): their records, the tests of a list of nodes, and what `Canonical` (canonical.rs) appends to one.
 #![tactic(auto)]
 
-ghost use Rattle.std.specs.Prelude.{◌≡◌, true, min, max, ◌+◌, ◌*◌, ◌≤◌, ◌<◌, ◌++◌, length, IfOk, OnOk};
+ghost use Rattle.std.specs.Prelude.{◌≡◌, true, min, max, ◌+◌, ◌*◌, ◌^◌, ◌≤◌, ◌<◌, ◌++◌, length, IfOk, OnOk};
 ghost use Rattle.std.proofs.lemmas.List.Edits.{sets};
 ghost use Rattle.std.specs.Float.{binary64};
 ghost use Rattle.std.specs.Float.Ieee.{of_bits};
 ghost use Rattle.std.specs.Float.Ieee.Scale.{finite};
 ghost use Rattle.record.specs.Bytes.{u32_bytes};
+ghost use Rattle.record.specs.Refusal.{◌unless◌};
 ghost use Rattle.record.specs.Refused.{refusal_of, numbered};
 ghost use Rattle.record.specs.Leaving.{◌leaving◌};
 ghost use Rattle.tree.specs.Tree.{Tree, tree_vars};
@@ -30,7 +31,9 @@ pub enum Node {
 
 // ---- a node's record
 
-// Whether a pattern is a finite f64's: the exponent's field is not all ones.
+// Whether a pattern is a finite f64's: the exponent's field is not all ones. With the library's `is_finite` of the f64 a list's tests were
+// measured a quarter slower.
+#[tactic(auto, using(crate::proofs::Floats::finite_is))]
 fn is_finite(bits: u64) -> bool
     ensures { result ≡ finite (of_bits binary64 bits) }
 {
@@ -42,33 +45,24 @@ fn is_finite(bits: u64) -> bool
 fn right_end(kind: u32, k: usize) -> usize
     ensures { result ≡ right_end kind k }
 {
-    if kind == 3 {
-        return k;
-    }
-    1
+    if kind == 3 { k } else { 1 }
 }
 
 fn left_end(kind: u32, k: usize) -> usize
     ensures { result ≡ left_end kind k }
 {
-    let end = right_end(kind, k);
-    if kind == 2 {
-        return 16;
-    }
-    end
+    if kind == 2 { 16 } else { right_end(kind, k) }
 }
 
 // The test of a constant, or that of the other kinds.
 fn choose(kind: u32, constant: bool, other: bool) -> bool
     ensures { result ≡ chosen kind constant other }
 {
-    if kind == 1 {
-        return constant;
-    }
-    other
+    if kind == 1 { constant } else { other }
 }
 
 // Whether record k is a node's.
+#[tactic(auto, using(crate::proofs::Tests::node_is), unfolding(record::specs::Bytes::f64_at))]
 pub fn is_node(nodes: &[u8], k: usize) -> bool
     requires { 16 * k + 16 ≤ length nodes.now }
     ensures { result ≡ is_node nodes.now k }
@@ -84,6 +78,7 @@ pub fn is_node(nodes: &[u8], k: usize) -> bool
 }
 
 // Node k, read with no test.
+#[tactic(auto, using(crate::proofs::Tests::node_reads))]
 pub fn node_in(nodes: &[u8], k: usize) -> Node
     requires { 16 * k + 16 ≤ length nodes.now }
     ensures { result ≡ node_at nodes.now k }
@@ -106,20 +101,39 @@ pub fn node_in(nodes: &[u8], k: usize) -> Node
 // The expanded size and the depth of a tree.
 #[derive(Clone, Copy)]
 struct Extent {
+    size: usize,
+    depth: usize,
+}
+
+// An accepted tree's: the shorter a list of them, the quicker it is cleared.
+#[derive(Clone, Copy)]
+struct SmallExtent {
     size: u16,
-    depth: u8,
+    depth: u16,
 }
 
 // A tree with one node's.
 const ONE: Extent = Extent { size: 1, depth: 1 };
 
 // What a place holds before its node is met.
-const NONE: Extent = Extent { size: 0, depth: 0 };
+const NONE: SmallExtent = SmallExtent { size: 0, depth: 0 };
 
+impl From<SmallExtent> for Extent {
+    ghost from_gives = { λ s e. (e.size ≡ s.size) × (e.depth ≡ s.depth) };
+
+    fn from(s: SmallExtent) -> Extent {
+        Extent {
+            size: usize::from(s.size),
+            depth: usize::from(s.depth),
+        }
+    }
+}
+
+#[tactic(auto, unfolding(crate::specs::Tree::size, crate::specs::Tree::depth))]
 impl Extent {
     // An Eml's, by those of its children.
     fn eml(self, right: Extent) -> Extent
-        requires { (self.size + right.size < 65535) × (self.depth < 255) × (right.depth < 255) }
+        requires { (self.size + right.size < 2 ^ 32) × (self.depth < 2 ^ 32) × (right.depth < 2 ^ 32) }
         ensures { (result.size ≡ 1 + self.size + right.size) × (result.depth ≡ 1 + max self.depth right.depth) }
     {
         Extent {
@@ -128,10 +142,18 @@ impl Extent {
         }
     }
 
-    fn is_small(self) -> bool
-        ensures { result ≡ small_extent self }
+    // 4, as document 01 bounds a tree.
+    fn accept(self) -> Result<SmallExtent, Refusal>
+        ensures refusal { refusal_of result ≡ (4 unless small_extent self) }
+        ensures value { IfOk result (λ e. (e.size ≡ self.size) × (e.depth ≡ self.depth)) }
     {
-        self.size <= 4096 && self.depth <= 128
+        if 4096 < self.size || 128 < self.depth {
+            return Err(Refusal::Size);
+        }
+        Ok(SmallExtent {
+            size: self.size as u16,
+            depth: self.depth as u16,
+        })
     }
 
     // Those of `ln_tree` and `sub_tree`.
@@ -152,15 +174,14 @@ impl Extent {
 }
 
 // Node k's, by those of the nodes before it.
-fn measure(nodes: &[u8], k: usize, extents: &[Extent]) -> Extent
+#[tactic(auto, using(crate::specs::NodeLaws::node_trees), unfolding(crate::specs::Tree::size, crate::specs::Tree::depth))]
+fn measure(nodes: &[u8], k: usize, extents: &[SmallExtent]) -> Extent
     requires { (16 * k + 16 ≤ length nodes.now) × (is_node nodes.now k ≡ true) × Held nodes.now k extents.now }
     ensures { IsExtent (the_tree nodes k) result }
 {
     match node_in(nodes, k) {
-        Node::Eml(l, r) => extents[l].eml(extents[r]),
-        Node::One => ONE,
-        Node::Const(_) => ONE,
-        Node::Var(_) => ONE,
+        Node::Eml(l, r) => Extent::from(extents[l]).eml(Extent::from(extents[r])),
+        Node::One | Node::Const(_) | Node::Var(_) => ONE,
     }
 }
 
@@ -173,7 +194,8 @@ fn nodes_fit(len: usize, n: usize) -> bool
 }
 
 // A list of count nodes: 2, then each node 3, 4; and the size of the largest tree. The extents of a list that passes are left in `extents`.
-fn test_nodes(nodes: &[u8], count: usize, extents: &mut [Extent]) -> Result<usize, Refusal>
+#[tactic(auto, using(crate::proofs::Nodes::list_tests), unfolding(record::specs::Refusal::first, crate::specs::Code::largest))]
+fn test_nodes(nodes: &[u8], count: usize, extents: &mut [SmallExtent]) -> Result<usize, Refusal>
     requires { min count 1024 ≤ length extents.old }
     ensures refusal { refusal_of result ≡ list_refusal nodes.now count }
     ensures held { OnOk result (Held nodes.now count (final extents)) }
@@ -182,19 +204,16 @@ fn test_nodes(nodes: &[u8], count: usize, extents: &mut [Extent]) -> Result<usiz
     if !nodes_fit(nodes.len(), count) {
         return Err(Refusal::Counts);
     }
-    let mut largest: u16 = 0;
+    let mut largest: usize = 0;
     for k in 0..count {
         if !is_node(nodes, k) {
             return Err(Refusal::Node);
         }
         let extent = measure(nodes, k, extents);
-        if !extent.is_small() {
-            return Err(Refusal::Size);
-        }
-        extents[k] = extent;
+        extents[k] = extent.accept()?;
         largest = largest.max(extent.size);
     }
-    Ok(usize::from(largest))
+    Ok(largest)
 }
 
 fn test_within<const N: usize>(nodes: &[u8], count: usize) -> Result<usize, Refusal>
@@ -221,13 +240,13 @@ pub fn test_sizes(nodes: &[u8], count: usize) -> Result<usize, Refusal>
 // ---- a node's tree
 
 // The number of variables of node k's tree.
+#[tactic(auto, using(crate::specs::NodeLaws::node_trees, crate::specs::NodeLaws::valid_trees), unfolding(crate::specs::Tree::tree_vars))]
 pub fn num_vars(nodes: &[u8], k: usize) -> usize
     requires { Valid nodes.now (k + 1) }
     ensures { result ≡ tree_vars (the_tree nodes k) }
 {
     match node_in(nodes, k) {
-        Node::One => 0,
-        Node::Const(_) => 0,
+        Node::One | Node::Const(_) => 0,
         Node::Var(i) => i + 1,
         Node::Eml(l, r) => {
             let left = num_vars(nodes, l);
@@ -240,6 +259,7 @@ pub fn num_vars(nodes: &[u8], k: usize) -> usize
 // ---- Canonical, on a list of count nodes whose free places are the bytes after them
 
 // The list's own tests, then 3 unless x and y name nodes; and their extents.
+#[tactic(auto, using(crate::proofs::Append::append_tests), unfolding(crate::specs::Code::operands_refusal))]
 fn measure_operands(
     nodes: &[u8],
     count: usize,
@@ -254,7 +274,7 @@ fn measure_operands(
     if count <= x || count <= y {
         return Err(Refusal::Node);
     }
-    Ok((extents[x], extents[y]))
+    Ok((Extent::from(extents[x]), Extent::from(extents[y])))
 }
 
 // 4 for the result, then 10 unless there is room for `more` nodes.
@@ -263,15 +283,14 @@ fn test_result(len: usize, count: usize, more: usize, extent: Extent) -> Result<
     requires { (count ≤ 1024) × (more ≤ 1024) }
     ensures { refusal_of result ≡ result_refusal len count more extent }
 {
-    if !extent.is_small() {
-        return Err(Refusal::Size);
-    }
+    extent.accept()?;
     if !nodes_fit(len, count + more) {
         return Err(Refusal::Room);
     }
     Ok(())
 }
 
+#[tactic(auto, using(crate::proofs::Append::append_tests))]
 fn test_ln(nodes: &[u8], count: usize, x: usize) -> Result<(), Refusal>
     ensures { refusal_of result ≡ ln_refusal nodes.now count x }
 {
@@ -279,6 +298,7 @@ fn test_ln(nodes: &[u8], count: usize, x: usize) -> Result<(), Refusal>
     test_result(nodes.len(), count, 4, a.ln())
 }
 
+#[tactic(auto, using(crate::proofs::Append::append_tests), unfolding(crate::specs::Canonical::sub_refusal))]
 pub fn test_sub(nodes: &[u8], count: usize, x: usize, y: usize) -> Result<(), Refusal>
     ensures { refusal_of result ≡ sub_refusal nodes.now count x y }
 {
@@ -286,6 +306,7 @@ pub fn test_sub(nodes: &[u8], count: usize, x: usize, y: usize) -> Result<(), Re
     test_result(nodes.len(), count, 7, a.sub(b))
 }
 
+#[tactic(auto, using(record::specs::ByteLaws::four_words))]
 fn write_record(nodes: &mut [u8], k: usize, kind: u32, left: u32, right: u32)
     requires { 16 * k + 16 ≤ length nodes.old }
     ensures { final nodes ≡ sets (old nodes) (16 * k) (u32_bytes kind ++ u32_bytes left ++ u32_bytes right ++ u32_bytes 0) }
@@ -297,6 +318,7 @@ fn write_record(nodes: &mut [u8], k: usize, kind: u32, left: u32, right: u32)
     record::write_u32(nodes, at + 12, 0);
 }
 
+#[tactic(auto, unfolding(crate::specs::Encoding::node_bytes))]
 fn write_one(nodes: &mut [u8], k: usize)
     requires { 16 * k + 16 ≤ length nodes.old }
     ensures { final nodes ≡ sets (old nodes) (16 * k) (node_bytes Node.One) }
@@ -304,6 +326,7 @@ fn write_one(nodes: &mut [u8], k: usize)
     write_record(nodes, k, 0, 0, 0);
 }
 
+#[tactic(auto, unfolding(crate::specs::Encoding::node_bytes))]
 fn write_eml(nodes: &mut [u8], k: usize, l: usize, r: usize)
     requires { (16 * k + 16 ≤ length nodes.old) × (l < 1024) × (r < 1024) }
     ensures { final nodes ≡ sets (old nodes) (16 * k) (node_bytes (Node.Eml l r)) }
@@ -336,6 +359,7 @@ pub struct Canonical;
 
 impl Canonical {
     // ln x: appends One, inner, middle, outer.
+    #[tactic(auto, using(crate::specs::CanonicalLaws::ln_accepted, crate::proofs::Append::append_ends), unfolding(crate::specs::Canonical::ln))]
     pub fn ln(nodes: &mut [u8], count: usize, x: usize) -> Result<usize, Refusal>
         ensures { (numbered result leaving final nodes) ≡ ln_of (old nodes) count x }
     {
@@ -345,6 +369,7 @@ impl Canonical {
     }
 
     // x - y: appends One, the four of ln x, exp_y, result.
+    #[tactic(auto, using(crate::specs::CanonicalLaws::sub_accepted, crate::proofs::Append::append_ends), unfolding(crate::specs::Canonical::sub))]
     pub fn sub(nodes: &mut [u8], count: usize, x: usize, y: usize) -> Result<usize, Refusal>
         ensures { (numbered result leaving final nodes) ≡ sub_of (old nodes) count x y }
     {

@@ -5,12 +5,9 @@ use mathlib.Core.Path.{sym, ap, ap₂, ◌∙◌}
 use native.Mathlib.Omega.{arith}
 use Rattle.constraint.specs.Constraint.{Constraint, num_vars_all}
 use Rattle.constraint.specs.Records.{gather}
-use Rattle.constraint.specs.RecordLaws.{record_there, taken_here, none_taken, some, start_falls, before_last, last, up_to_lem}
+use Rattle.constraint.specs.RecordLaws.{taken_here, none_taken, some, start_falls, before_last, last, up_to_lem}
 use Rattle.constraint.specs.VarLaws.{num_vars_snoc, vars_of, named}
 use Rattle.constraint.proofs.records.Records.+num_vars_num_vars_all.Goals as goal
-
-pub num_vars-record_in-r-requires : goal.num_vars-record_in-r-requires
-num_vars-record_in-r-requires t c = record_there c.args.self.now _ c.requires
 
 pub num_vars-num_vars_all-taken-requires : goal.num_vars-num_vars_all-taken-requires
 num_vars-num_vars_all-taken-requires t c =

@@ -1,14 +1,8 @@
 -- `interval::Point::with` meets its contract. Assumes nothing.
-use mathlib.Core.Path.{refl, sym}
-use native.Mathlib.Omega.{arith}
+use mathlib.Core.Path.{refl}
 use lib.Seq.{take-set-lt}
-use Rattle.interval.specs.BoxLaws.{set_blank, values_length, set_past}
+use Rattle.interval.specs.BoxLaws.{set_blank}
 use Rattle.interval.proofs.point.Point.with.Goals as goal
-
-pub returns-then-self-i : goal.returns-then-self-i
-returns-then-self-i c =
-    let p = c.args.self in
-    (refl, sym (set_past _ _ _ (omega (arith, values_length p.values p.count p.few p.blank, c.if-self-i.true))))
 
 pub invariant_of-point : goal.invariant_of-point
 invariant_of-point c =

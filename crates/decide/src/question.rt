@@ -1,0 +1,122 @@
+// What a decision asks: of the constraint that the records leave, about variable `var` of `count` in its range.
+ghost use Rattle.std.specs.Prelude.{◌≡◌, ◌≤◌};
+
+use super::Verdict;
+use constraint::Records;
+use interval::{Domain, Interval, Point};
+use narrow::{Mode, PropResult};
+use point::helpers::check_constraint;
+use settings::Settings;
+
+#[derive(Drop)]
+pub struct Question<'a> {
+    pub records: Records<'a>,
+    pub settings: Settings,
+    pub var: usize,
+    pub range: Interval,
+    pub count: usize,
+    pub ghost few: { count ≤ 16 },
+}
+
+impl<'a> Question<'a> {
+    ghost use Rattle.std.specs.List.{find};
+    ghost use Rattle.interval.specs.Views.{intervals_of, values_of};
+    ghost use Rattle.constraint.specs.Views.{the_constraint};
+    ghost use Rattle.decide.specs.Deciding.{forall_samples, exists_samples, refutes};
+    ghost use Rattle.decide.specs.Views.{sample_of, box_of, answers_at, for_all, exists, result_of};
+
+    // The variable at x, every other one at 0.
+    fn point_at(&self, x: f64) -> Point
+        ensures { values_of result ≡ sample_of self.now x }
+    {
+        Point::zeros(self.count).with(self.var, x)
+    }
+
+    // The variable in its range, every other one in [-1e10, 1e10].
+    fn boxes(&self) -> Domain
+        ensures { intervals_of result ≡ box_of self.now }
+    {
+        Domain::filled(Interval::new(-1e10, 1e10), self.count).with(self.var, self.range)
+    }
+
+    fn forall_samples(&self) -> [f64; 5]
+        ensures { result ≡ forall_samples self.now.range.lo self.now.range.hi }
+    {
+        let Interval { lo, hi } = self.range;
+        let tenth = 0.1 * (hi - lo);
+        [lo, hi, (lo + hi) / 2.0, lo + tenth, hi - tenth]
+    }
+
+    fn exists_samples(&self) -> [f64; 5]
+        ensures { result ≡ exists_samples self.now.range.lo self.now.range.hi }
+    {
+        let Interval { lo, hi } = self.range;
+        let width = hi - lo;
+        [
+            (lo + hi) / 2.0,
+            lo,
+            hi,
+            lo + 0.25 * width,
+            lo + 0.75 * width,
+        ]
+    }
+
+    // The first sample at which the check answers as wanted.
+    fn first_sample(&self, wanted: bool, samples: &[f64]) -> Option<f64>
+        ensures { result ≡ find (answers_at self.now wanted) samples.now }
+    {
+        let mut order = [0u16; 4096];
+        for x in samples {
+            let point = self.point_at(*x);
+            let passes = check_constraint(
+                &self.records,
+                self.records.root(),
+                self.settings,
+                point.as_slice(),
+                &mut order,
+            );
+            if passes == wanted {
+                return Some(*x);
+            }
+        }
+        None
+    }
+
+    // Whether propagating the negation of the constraint meets a conflict.
+    fn is_refuted(&self) -> bool
+        ensures { result ≡ refutes self.now.settings (the_constraint self.now.records) (box_of self.now) }
+    {
+        let mut boxes = self.boxes();
+        let result = narrow::narrow(
+            &self.records,
+            self.records.root(),
+            self.settings,
+            Mode::Negated,
+            &mut boxes.boxes[..self.count],
+        );
+        result == PropResult::Conflict
+    }
+
+    // Whether it holds for every value.
+    pub fn forall(&self) -> Verdict
+        ensures { result_of result ≡ for_all self.now }
+    {
+        if self.is_refuted() {
+            return Verdict::True;
+        }
+        match self.first_sample(false, &self.forall_samples()) {
+            None => Verdict::Unknown,
+            Some(x) => Verdict::FalseWithCounterexample(self.point_at(x)),
+        }
+    }
+
+    // Whether it holds for some value.
+    pub fn exists(&self) -> Verdict
+        ensures { result_of result ≡ exists self.now }
+    {
+        match self.first_sample(true, &self.exists_samples()) {
+            None => Verdict::Unknown,
+            Some(x) => Verdict::TrueWithWitness(self.point_at(x)),
+        }
+    }
+}
