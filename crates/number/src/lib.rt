@@ -55,8 +55,19 @@ pub fn next_down(x: f64) -> f64
     x.next_down()
 }
 
-// The f64 of a bit pattern and the pattern of an f64, NaNs included, of which every one's is 7FF8000000000000.
-pub use std::num::{f64_from_bits_with_nan as of_bits, f64_to_bits_with_nan as bits_of};
+// The f64 of a bit pattern, a NaN's included.
+pub fn of_bits(b: u64) -> f64
+    ensures { result ≡ from_bits binary64 b }
+{
+    std::num::f64_from_bits_with_nan(b)
+}
+
+// The bit pattern of an f64; every NaN's is 7FF8000000000000.
+pub fn bits_of(x: f64) -> u64
+    ensures { result ≡ to_bits binary64 x }
+{
+    std::num::f64_to_bits_with_nan(x)
+}
 
 // The nearest whole number, ties away from zero: the whole part of 2x, one further from zero, halved. (The library's `round` took a
 // third longer, measured.)
