@@ -1,10 +1,8 @@
 -- Laws that several proofs cite.
-mod Asking
-mod Vars
-mod Back
+mod Choices
 mod Atoms
 mod Branches
 mod Passes
-mod Given
+mod Rounds
 pub mod Shrinking
 pub mod Promise

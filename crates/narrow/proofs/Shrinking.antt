@@ -1,7 +1,6 @@
 -- Narrowing step by step: each step leaves boxes inside those that it got, and empties none. max and min are cited by their laws alone.
 -- Assumes nothing.
-use Rattle.std.specs.Prelude.{ℕ, zero, suc, not, ◌&&◌, List, [], ◌∷◌, T, get_or}
-use Rattle.std.proofs.Math.Option.{Option, none, some}
+use Rattle.std.specs.Prelude.{ℕ, zero, suc, not, ◌&&◌, List, [], ◌∷◌, T, get_or, Option, Some, None, Ok, Err}
 use Rattle.std.specs.Float.Ieee.{binary64, neg, eq, lt, of_int}
 use Rattle.std.specs.Float.Ieee.Fits.{and_l, and_r, of_int-fits, round-fits, neg-fits}
 use Rattle.number.specs.Notation.{◌≺◌, whole}
@@ -18,14 +17,10 @@ use Rattle.constraint.specs.declared.Relation.{Relation}
 use Rattle.constraint.specs.declared.Relation.TheVariants.{EqZero, GtZero, GeZero, LtZero, LeZero, NeZero}
 use Rattle.constraint.specs.Constraint.{Constraint, Constraints, Atom, Not, And, Or, ForAll, Exists, end, ◌⨾◌}
 use Rattle.normal.specs.NormalForm.{to_nnf, negate, to_nnf_all, negate_all}
-use Rattle.narrow.specs.declared.Values.{Values}
-use Rattle.narrow.specs.declared.Values.TheVariants.{Within, Unknown}
-use Rattle.narrow.specs.declared.Demand.{Demand}
-use Rattle.narrow.specs.declared.Demand.TheVariants.{Answer, Ask}
-use Rattle.narrow.specs.declared.Target.{Target}
-use Rattle.narrow.specs.declared.Target.TheVariants.{Stop, Out, Nudge}
-use Rattle.narrow.specs.declared.Tightened.{Tightened}
-use Rattle.narrow.specs.Narrowing.{Narrowed, eml_interval, forward, eval_interval, left_of, ask_real, ask_of, demand, ask_both, narrow_var, backward, eps, target_of}
+use Rattle.record.specs.Leaving.{Leaving}
+use Rattle.narrow.specs.declared.PropResult.{PropResult}
+use Rattle.narrow.specs.declared.forward.Children.{Children}
+use Rattle.narrow.specs.Narrowing.{Narrowed, Demand, on_ok, eml_interval, forward, eval_interval, children, left_of, ask, demand, ask_both, narrow_var, backward, eps, target_of}
 use Rattle.narrow.specs.Narrowing.{nudge_var, nudge_tree, aim, narrow_to, narrow_atom, continue, hulls, hull_with, survive, tightened, adopt, adopt_survivors, round as round_by, round_all, survivors, propagate_once, again, rounds}
 use Rattle.narrow.specs.Held.{TreeHeld, ConstraintHeld, ConstraintsHeld}
 
@@ -34,15 +29,15 @@ abbrev pub Leaves : List Interval → Narrowed → Type 0
 Leaves b x = Narrower b x.places
 
 -- ---- forward
-abbrev EndsIn : Values → Type 0
-EndsIn (Within i) = Ends i
-EndsIn Unknown = Unit {0}
+abbrev EndsIn : Option Interval → Type 0
+EndsIn (Some i) = Ends i
+EndsIn None = Unit {0}
 
-forward_ends : (l r : Values) → EndsIn (forward l r)
+forward_ends : (l r : Option Interval) → EndsIn (forward l r)
 unfolding forward eml_interval
-forward_ends (Within l) (Within r) = either EndsIn _ _ _ nothing_ends (either EndsIn _ _ _ (minus_ends _ _) tt)
-forward_ends (Within l) Unknown = tt
-forward_ends Unknown r = tt
+forward_ends (Some l) (Some r) = either EndsIn _ _ _ nothing_ends (either EndsIn _ _ _ (minus_ends _ _) tt)
+forward_ends (Some l) None = tt
+forward_ends None r = tt
 
 eval_ends : (b : List Interval) (t : Tree) → TreeHeld t → Each Proper b → EndsIn (eval_interval b t)
 unfolding eval_interval
@@ -53,29 +48,33 @@ eval_ends b (Tree.Eml l r) f g = forward_ends (eval_interval b l) (eval_interval
 
 -- ---- backward
 abbrev Asked : Demand → Type 0
-Asked (Answer w) = Unit {0}
-Asked (Ask l r) = Ends l × Ends r
+Asked (Ok p) = Ends p.left × Ends p.right
+Asked (Err w) = Unit {0}
 
 left_ends : (l range : Interval) → Ends l → Ends (left_of l range)
 unfolding left_of
 left_ends l range p = either Ends _ _ _ (intersect_ends l _ p (ln_ends _)) p
 
-ask_ends : (out : Interval) (l r : Values) → EndsIn l → EndsIn r → Asked (demand l r out)
-unfolding demand ask_of ask_real
-ask_ends out (Within l) (Within r) p q =
-    either Asked _ _ _ tt (either Asked _ _ _ (either Asked _ _ _ tt (left_ends l _ p, intersect_ends r _ q (exp_ends _))) tt)
-ask_ends out (Within l) Unknown p q = tt
-ask_ends out Unknown r p q = tt
+asked_ends : (out : Interval) (c : Children) → Ends c.left → Ends c.right → Asked (ask out c)
+unfolding ask
+asked_ends out c p q = either Asked _ _ _ tt (left_ends c.left _ p, intersect_ends c.right _ q (exp_ends _))
+
+ask_ends : (out : Interval) (l r : Option Interval) → EndsIn l → EndsIn r → Asked (demand l r out)
+unfolding demand children
+ask_ends out (Some l) (Some r) p q =
+    either (λ c. Asked (on_ok c (ask out))) _ _ _ tt (either (λ c. Asked (on_ok c (ask out))) _ _ _ (asked_ends out _ p q) tt)
+ask_ends out (Some l) None p q = tt
+ask_ends out None r p q = tt
 
 abbrev Step : (Interval → List Interval → Narrowed) → Type 0
 Step f = (i : Interval) (b : List Interval) → Ends i → Each Proper b → Leaves b (f i b)
 
 both_leave : (d : Demand) (left right : Interval → List Interval → Narrowed) (b : List Interval) → Asked d → Step left → Step right → Each Proper b → Leaves b (ask_both d left right b)
 unfolding ask_both
-both_leave (Answer w) left right b f p q g = narrower_refl b g
-both_leave (Ask l r) left right b f p q g =
-    let x = p l b f.0 g in
-    narrower_trans b (left l b).places (right r (left l b).places).places x (q r (left l b).places f.1 x.proper)
+both_leave (Err w) left right b f p q g = narrower_refl b g
+both_leave (Ok a) left right b f p q g =
+    let x = p a.left b f.0 g in
+    narrower_trans b (left a.left b).places (right a.right (left a.left b).places).places x (q a.right (left a.left b).places f.1 x.proper)
 
 var_leaves : (σ : Settings) (i : ℕ) → Step (narrow_var σ i)
 unfolding narrow_var
@@ -98,25 +97,20 @@ backward_leaves σ (Tree.Eml l r) f out b o g =
     (backward_leaves σ l f.0) (backward_leaves σ r f.1) g)
 
 -- ---- an atom
-abbrev Aimed : Target → Type 0
-Aimed (Stop w) = Unit {0}
-Aimed (Out i) = Ends i
-Aimed Nudge = Unit {0}
-
 zero_held : Held (whole 0)
 zero_held = of_int-fits binary64 _
 
 eps_held : Held eps
 eps_held = round-fits binary64 _ _ _
 
-target_ends : (σ : Settings) (rel : Relation) (v : Interval) → Ends v → Aimed (target_of σ rel v)
+target_ends : (rel : Relation) (v : Interval) → Ends v → EndsIn (target_of rel v)
 unfolding target_of
-target_ends σ EqZero v e = either Aimed _ _ _ tt (record { lo = zero_held; hi = zero_held })
-target_ends σ GtZero v e = either Aimed _ _ _ tt (record { lo = max_held v.lo eps e.lo eps_held; hi = e.hi })
-target_ends σ GeZero v e = either Aimed _ _ _ tt (record { lo = max_held v.lo (whole 0) e.lo zero_held; hi = e.hi })
-target_ends σ LtZero v e = either Aimed _ _ _ tt (record { lo = e.lo; hi = min_held v.hi (neg eps) e.hi (neg-fits binary64 eps eps_held) })
-target_ends σ LeZero v e = either Aimed _ _ _ tt (record { lo = e.lo; hi = min_held v.hi (whole 0) e.hi zero_held })
-target_ends σ NeZero v e = either Aimed _ _ _ tt tt
+target_ends EqZero v e = record { lo = zero_held; hi = zero_held }
+target_ends GtZero v e = record { lo = max_held v.lo eps e.lo eps_held; hi = e.hi }
+target_ends GeZero v e = record { lo = max_held v.lo (whole 0) e.lo zero_held; hi = e.hi }
+target_ends LtZero v e = record { lo = e.lo; hi = min_held v.hi (neg eps) e.hi (neg-fits binary64 eps eps_held) }
+target_ends LeZero v e = record { lo = e.lo; hi = min_held v.hi (whole 0) e.hi zero_held }
+target_ends NeZero v e = tt
 
 -- an end at zero goes to zero's neighbour: no f64 lies between the two, so the box is not emptied
 module _ (v : Interval) (p : Proper v) where
@@ -168,16 +162,15 @@ tree_leaves (Tree.Const v) b g = narrower_refl b g
 tree_leaves (Tree.Var i) b g = nudge_leaves i b g
 tree_leaves (Tree.Eml l r) b g = narrower_refl b g
 
-aim_leaves : (σ : Settings) (x : Target) (t : Tree) (b : List Interval) → Aimed x → TreeHeld t → Each Proper b → Leaves b (aim σ x t b)
+aim_leaves : (σ : Settings) (x : Option Interval) (t : Tree) (b : List Interval) → EndsIn x → TreeHeld t → Each Proper b → Leaves b (aim σ x t b)
 unfolding aim
-aim_leaves σ (Stop w) t b e f g = narrower_refl b g
-aim_leaves σ (Out out) t b e f g = backward_leaves σ t f out b e g
-aim_leaves σ Nudge t b e f g = tree_leaves t b g
+aim_leaves σ (Some out) t b e f g = backward_leaves σ t f out b e g
+aim_leaves σ None t b e f g = tree_leaves t b g
 
-to_leaves : (σ : Settings) (rel : Relation) (t : Tree) (v : Values) (b : List Interval) → EndsIn v → TreeHeld t → Each Proper b → Leaves b (narrow_to σ rel t v b)
+to_leaves : (σ : Settings) (rel : Relation) (t : Tree) (v : Option Interval) (b : List Interval) → EndsIn v → TreeHeld t → Each Proper b → Leaves b (narrow_to σ rel t v b)
 unfolding narrow_to
-to_leaves σ rel t (Within v) b e f g = either (Leaves b) _ _ _ (narrower_refl b g) (aim_leaves σ (target_of σ rel v) t b (target_ends σ rel v e) f g)
-to_leaves σ rel t Unknown b e f g = narrower_refl b g
+to_leaves σ rel t (Some v) b e f g = either (Leaves b) _ _ _ (narrower_refl b g) (aim_leaves σ (target_of rel v) t b (target_ends rel v e) f g)
+to_leaves σ rel t None b e f g = narrower_refl b g
 
 atom_leaves : (σ : Settings) (rel : Relation) (t : Tree) (b : List Interval) → TreeHeld t → Each Proper b → Leaves b (narrow_atom σ rel t b)
 unfolding narrow_atom
@@ -185,8 +178,8 @@ atom_leaves σ rel t b f g = to_leaves σ rel t (eval_interval b t) b (eval_ends
 
 -- ---- Or
 abbrev EachIn : Option (List Interval) → Type 0
-EachIn none = Unit {0}
-EachIn (some is) = Each Ends is
+EachIn None = Unit {0}
+EachIn (Some is) = Each Ends is
 
 proper_ends : (b : List Interval) → Each Proper b → Each Ends b
 proper_ends [] g = tt
@@ -200,12 +193,12 @@ hulls_ends (i ∷ is) (j ∷ js) p q = (hull_ends i j p.0 q.0, hulls_ends is js 
 
 survive_ends : (hs : Option (List Interval)) (x : Narrowed) → EachIn hs → Each Ends x.places → EachIn (survive hs x)
 unfolding survive hull_with
-survive_ends none x p q = either EachIn _ _ _ tt q
-survive_ends (some a) x p q = either EachIn _ _ _ p (hulls_ends a x.places p q)
+survive_ends None x p q = either EachIn _ _ _ tt q
+survive_ends (Some a) x p q = either EachIn _ _ _ p (hulls_ends a x.places p q)
 
 -- the box that an Or leaves
-abbrev Tight : Interval → Tightened → Type 0
-Tight old x = Inside old x.interval × Ends x.interval
+abbrev Tight : Interval → Leaving PropResult Interval → Type 0
+Tight old x = Inside old x.places × Ends x.places
 
 tightened_inside : (σ : Settings) (h old : Interval) → Ends h → Proper old → Tight old (tightened σ h old)
 unfolding tightened
@@ -226,8 +219,8 @@ adopt_leaves σ (h ∷ hs) (i ∷ is) f g =
 
 or_leaves : (σ : Settings) (hs : Option (List Interval)) (b : List Interval) → EachIn hs → Each Proper b → Leaves b (adopt_survivors σ hs b)
 unfolding adopt_survivors
-or_leaves σ none b f g = narrower_refl b g
-or_leaves σ (some hs) b f g = adopt_leaves σ hs b f g
+or_leaves σ None b f g = narrower_refl b g
+or_leaves σ (Some hs) b f g = adopt_leaves σ hs b f g
 
 -- ---- constraints
 mutual
@@ -279,7 +272,7 @@ module _ (σ : Settings) (under : Constraint → List Interval → Narrowed) (u 
     round_leaves (Atom rel t) b f g = atom_leaves σ rel t b f g
     round_leaves (Not c) b f g = u c b f g
     round_leaves (And cs) b f g = all_leave cs b f g
-    round_leaves (Or cs) b f g = or_leaves σ (survivors σ under cs b none) b (survivors_ends cs b none f g tt) g
+    round_leaves (Or cs) b f g = or_leaves σ (survivors σ under cs b None) b (survivors_ends cs b None f g tt) g
     round_leaves (ForAll v lo hi c) b f g = narrower_refl b g
     round_leaves (Exists v lo hi c) b f g = narrower_refl b g
 

@@ -1,20 +1,15 @@
 -- Narrowing by a normal form without building it: the recursion that the code makes, and that it is the definition's. Assumes nothing.
-use Rattle.std.specs.Prelude.{ℕ, ◌≡◌, refl, List, Bool, true, false, not}
+use Rattle.std.specs.Prelude.{◌≡◌, refl, List, Bool, true, false, not, Option, None}
 use Rattle.std.proofs.Common.{ap, ◌∙◌}
-use Rattle.std.proofs.Math.Option.{Option, none, some}
 use Rattle.settings.specs.declared.Settings.{Settings}
 use Rattle.interval.specs.declared.Interval.{Interval}
-use Rattle.constraint.specs.declared.Record.{Record}
 use Rattle.constraint.specs.declared.Relation.{Relation}
 use Rattle.constraint.specs.Constraint.{Constraint, Constraints, Atom, Not, And, Or, ForAll, Exists, end, ◌⨾◌}
 use Rattle.normal.specs.NormalForm.{opposite_of, to_nnf, negate, to_nnf_all, negate_all}
 use Rattle.narrow.specs.declared.PropResult.TheVariants.{Stable}
-use Rattle.interval.specs.Boxes.{boxes_of}
 use Rattle.record.specs.Leaving.{◌leaving◌}
-use Rattle.narrow.specs.declared.Survivors.{Survivors}
-use Rattle.narrow.specs.declared.Step.{Step}
-use Rattle.narrow.specs.declared.Mode.{Mode}
-use Rattle.narrow.specs.declared.Mode.TheVariants.{Written, Normal, Negated}
+use Rattle.narrow.specs.declared.round.Mode.{Mode}
+use Rattle.narrow.specs.declared.round.Mode.TheVariants.{Written, Normal, Negated}
 use Rattle.narrow.specs.Narrowing.{Narrowed, is_conflict, joined, narrow_atom, continue, survive, adopt_survivors, round, round_all, survivors, propagate_once}
 use Rattle.number.specs.Notation.{when◌then◌else◌}
 
@@ -40,14 +35,6 @@ is_negated Written = false
 is_negated Normal = false
 is_negated Negated = true
 
--- ---- what the code holds
-abbrev pub alive : Bool → List Interval → Option (List Interval)
-alive true b = some b
-alive false b = none
-
-abbrev pub survivors_of : Survivors → Option (List Interval)
-survivors_of s = alive s.any (boxes_of s.hull)
-
 -- ---- a round
 -- one of several is to hold, or all
 abbrev pub one_or_all : Bool → Narrowed → Narrowed → Narrowed
@@ -58,8 +45,8 @@ unfoldable mutual
   pub pass : Settings → Mode → Constraint → List Interval → Narrowed
   pass σ w (Atom rel t) b = narrow_atom σ (relation_in w rel) t b
   pass σ w (Not c) b = pass σ (under_not w) c b
-  pass σ w (And cs) b = one_or_all (is_negated w) (adopt_survivors σ (pass_any σ w cs b none) b) (pass_all σ w cs b)
-  pass σ w (Or cs) b = one_or_all (not (is_negated w)) (adopt_survivors σ (pass_any σ w cs b none) b) (pass_all σ w cs b)
+  pass σ w (And cs) b = one_or_all (is_negated w) (adopt_survivors σ (pass_any σ w cs b None) b) (pass_all σ w cs b)
+  pass σ w (Or cs) b = one_or_all (not (is_negated w)) (adopt_survivors σ (pass_any σ w cs b None) b) (pass_all σ w cs b)
   pass σ w (ForAll v lo hi c) b = Stable leaving b
   pass σ w (Exists v lo hi c) b = Stable leaving b
 
@@ -71,18 +58,8 @@ unfoldable mutual
   pass_any σ w end b so_far = so_far
   pass_any σ w (c ⨾ cs) b so_far = pass_any σ w cs b (survive so_far (pass σ w c b))
 
--- what a round does with a record
-abbrev pub several_of : Bool → ℕ → Step
-several_of true m = Step.Any m
-several_of false m = Step.All m
-
-unfoldable pub step_of : Mode → Record → Step
-step_of w (Record.Atom rel i) = Step.Atom (relation_in w rel) i
-step_of w Record.Not = Step.Inside (under_not w)
-step_of w (Record.And m) = several_of (is_negated w) m
-step_of w (Record.Or m) = several_of (not (is_negated w)) m
-step_of w (Record.ForAll v lo hi) = Step.Nothing
-step_of w (Record.Exists v lo hi) = Step.Nothing
+abbrev pub pass_several : Bool → Settings → Mode → Constraints → List Interval → Narrowed
+pass_several one σ w cs b = one_or_all one (adopt_survivors σ (pass_any σ w cs b None) b) (pass_all σ w cs b)
 
 -- ---- the same as the definition's
 -- one step of And, by two narrowings that are equal
@@ -98,14 +75,14 @@ module _ (σ : Settings) (u : Constraint → List Interval → Narrowed) where
     normal_is (Atom rel t) b = refl
     normal_is (Not c) b = negated_is c b
     normal_is (And cs) b = normal_all cs b
-    normal_is (Or cs) b = ap (λ hs. adopt_survivors σ hs b) (normal_any cs b none)
+    normal_is (Or cs) b = ap (λ hs. adopt_survivors σ hs b) (normal_any cs b None)
     normal_is (ForAll v lo hi c) b = refl
     normal_is (Exists v lo hi c) b = refl
 
     negated_is : (c : Constraint) (b : List Interval) → pass σ Negated c b ≡ round σ u (negate c) b
     negated_is (Atom rel t) b = refl
     negated_is (Not c) b = normal_is c b
-    negated_is (And cs) b = ap (λ hs. adopt_survivors σ hs b) (negated_any cs b none)
+    negated_is (And cs) b = ap (λ hs. adopt_survivors σ hs b) (negated_any cs b None)
     negated_is (Or cs) b = negated_all cs b
     negated_is (ForAll v lo hi c) b = refl
     negated_is (Exists v lo hi c) b = refl
@@ -138,7 +115,7 @@ module _ (σ : Settings) where
     written_is (Atom rel t) b = refl
     written_is (Not c) b = normal_is σ (λ e b. Stable leaving b) c b
     written_is (And cs) b = written_all cs b
-    written_is (Or cs) b = ap (λ hs. adopt_survivors σ hs b) (written_any cs b none)
+    written_is (Or cs) b = ap (λ hs. adopt_survivors σ hs b) (written_any cs b None)
     written_is (ForAll v lo hi c) b = refl
     written_is (Exists v lo hi c) b = refl
 

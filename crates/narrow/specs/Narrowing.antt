@@ -1,6 +1,5 @@
 -- Narrowing (document 01; interval.rs): `eval_interval`, `backward_propagate` and `propagate_once`, step by step.
-use Rattle.std.specs.Prelude.{ℕ, zero, suc, ◌^◌, Bool, true, false, not, ◌&&◌, ◌||◌, List, [], ◌∷◌, ltb, length, get_or, set, Float}
-use Rattle.std.proofs.Math.Option.{Option, none, some}
+use Rattle.std.specs.Prelude.{ℕ, zero, suc, ◌^◌, Bool, true, false, not, ◌&&◌, ◌||◌, List, [], ◌∷◌, ltb, length, get_or, set, Float, Option, Some, None, Result, Ok, Err}
 use Rattle.std.specs.Float.{binary64}
 use Rattle.std.specs.Float.Ieee.{neg, eq}
 use Rattle.number.specs.Notation.{when◌then◌else◌, ◌≺◌, ◌≼◌, whole, decimal}
@@ -19,13 +18,8 @@ use Rattle.constraint.specs.Constraint.{Constraint, Constraints, Atom, Not, And,
 use Rattle.normal.specs.NormalForm.{to_nnf}
 use Rattle.narrow.specs.declared.PropResult.{PropResult}
 use Rattle.narrow.specs.declared.PropResult.TheVariants.{Changed, Stable, Conflict}
-use Rattle.narrow.specs.declared.Values.{Values}
-use Rattle.narrow.specs.declared.Values.TheVariants.{Within, Unknown}
-use Rattle.narrow.specs.declared.Demand.{Demand}
-use Rattle.narrow.specs.declared.Demand.TheVariants.{Answer, Ask}
-use Rattle.narrow.specs.declared.Tightened.{Tightened}
-use Rattle.narrow.specs.declared.Target.{Target}
-use Rattle.narrow.specs.declared.Target.TheVariants.{Stop, Out, Nudge}
+use Rattle.narrow.specs.declared.forward.Pair.{Pair}
+use Rattle.narrow.specs.declared.forward.Children.{Children}
 
 -- what a step answers, and the boxes that it leaves
 abbrev pub Narrowed : Type 0
@@ -53,47 +47,58 @@ unfoldable pub continue : Narrowed → (List Interval → Narrowed) → Narrowed
 continue x next = when is_conflict x.answer then x else joined x.answer (next x.places)
 
 -- ---- forward: the interval of a tree's values, where real arithmetic can tell
-unfoldable pub eml_interval : Interval → Interval → Values
-eml_interval l r = when is_empty l || is_empty r then Within nothing else when has_ln r then Within (minus (exp l) (ln r)) else Unknown
+unfoldable pub eml_interval : Interval → Interval → Option Interval
+eml_interval l r = when is_empty l || is_empty r then Some nothing else when has_ln r then Some (minus (exp l) (ln r)) else None
 
 -- of two that are known
-unfoldable pub forward : Values → Values → Values
-forward (Within l) (Within r) = eml_interval l r
-forward (Within l) Unknown = Unknown
-forward Unknown r = Unknown
+unfoldable pub forward : Option Interval → Option Interval → Option Interval
+forward (Some l) (Some r) = eml_interval l r
+forward (Some l) None = None
+forward None r = None
 
-unfoldable pub eval_interval : List Interval → Tree → Values
-eval_interval b Tree.One = Within (whole 1 ‥ whole 1)
-eval_interval b (Tree.Const v) = Within (v ‥ v)
-eval_interval b (Tree.Var i) = Within (get_or b i missing)
+unfoldable pub eval_interval : List Interval → Tree → Option Interval
+eval_interval b Tree.One = Some (whole 1 ‥ whole 1)
+eval_interval b (Tree.Const v) = Some (v ‥ v)
+eval_interval b (Tree.Var i) = Some (get_or b i missing)
 eval_interval b (Tree.Eml l r) = forward (eval_interval b l) (eval_interval b r)
 
 -- ---- backward: what a node's value is to lie in is passed on to its children, down to the variables
--- an Eml asks its children, or answers at once: out = exp(left) - ln(right)
+-- what an Eml asks of its children, or answers at once
+abbrev pub Demand : Type 0
+Demand = Result Pair PropResult
+
+-- goes on with a value, and hands on an answer
+abbrev pub on_ok : {A B : Type 0} → Result A PropResult → (A → Result B PropResult) → Result B PropResult
+on_ok (Ok x) next = next x
+on_ok (Err w) next = Err w
+
+-- the children, with what is computed of them forward
+unfoldable pub children : Option Interval → Option Interval → Result Children PropResult
+children (Some l) (Some r) =
+    when is_empty l || is_empty r then Err Conflict
+    else when has_ln r then Ok (record { left = l; right = r; exp_left = exp l; ln_right = ln r })
+    else Err Stable
+children (Some l) None = Err Stable
+children None r = Err Stable
+
 unfoldable pub left_of : Interval → Interval → Interval
 left_of l range = when whole 0 ≺ range.lo then intersect l (ln range) else l
 
-unfoldable pub ask_real : Interval → Interval → Interval → Demand
-ask_real l r out =
-    let expL = exp l in
-    let lnR = ln r in
-    let out_c = intersect out (minus expL lnR) in
-    let expLC = intersect expL (plus out_c lnR) in
-    let lnRC = intersect lnR (minus expL out_c) in
-    when is_empty out_c || is_empty expLC || is_empty lnRC then Answer Conflict else Ask (left_of l expLC) (intersect r (exp lnRC))
+-- out = exp(left) - ln(right)
+unfoldable pub ask : Interval → Children → Demand
+ask out c =
+    let out_c = intersect out (minus c.exp_left c.ln_right) in
+    let exp_c = intersect c.exp_left (plus out_c c.ln_right) in
+    let ln_c = intersect c.ln_right (minus c.exp_left out_c) in
+    when is_empty out_c || is_empty exp_c || is_empty ln_c then Err Conflict else Ok (record { left = left_of c.left exp_c; right = intersect c.right (exp ln_c) })
 
-unfoldable pub ask_of : Interval → Interval → Interval → Demand
-ask_of l r out = when is_empty l || is_empty r then Answer Conflict else when has_ln r then ask_real l r out else Answer Stable
-
-unfoldable pub demand : Values → Values → Interval → Demand
-demand (Within l) (Within r) out = ask_of l r out
-demand (Within l) Unknown out = Answer Stable
-demand Unknown r out = Answer Stable
+unfoldable pub demand : Option Interval → Option Interval → Interval → Demand
+demand l r out = on_ok (children l r) (ask out)
 
 -- left first; then right, asked what was computed before left wrote, also after a Conflict
 unfoldable pub ask_both : Demand → (Interval → List Interval → Narrowed) → (Interval → List Interval → Narrowed) → List Interval → Narrowed
-ask_both (Answer w) left right b = w leaving b
-ask_both (Ask l r) left right b = let x = left l b in joined x.answer (right r x.places)
+ask_both (Err w) left right b = w leaving b
+ask_both (Ok asked) left right b = let x = left asked.left b in joined x.answer (right asked.right x.places)
 
 -- a node of the one value v
 unfoldable pub fixed_at : Float → Interval → PropResult
@@ -113,23 +118,28 @@ backward σ (Tree.Var i) out b = when is_empty out then Conflict leaving b else 
 backward σ (Tree.Eml l r) out b =
     when is_empty out then Conflict leaving b else ask_both (demand (eval_interval b l) (eval_interval b r) out) (backward σ l) (backward σ r) b
 
--- an Eml of l and r that is to lie in out, which is not empty
-abbrev pub backward_eml : Settings → Tree → Tree → Interval → List Interval → Narrowed
-backward_eml σ l r out b = ask_both (demand (eval_interval b l) (eval_interval b r) out) (backward σ l) (backward σ r) b
-
 -- ---- one atom
 -- four times the f64 epsilon
 abbrev pub eps : Float
 eps = decimal 1 (2 ^ 50)
 
--- what an atom asks of its tree, whose values lie in v, which is not empty
-unfoldable pub target_of : Settings → Relation → Interval → Target
-target_of σ EqZero v = when (whole 0 ≺ v.lo) || (v.hi ≺ whole 0) then Stop Conflict else Out (whole 0 ‥ whole 0)
-target_of σ GtZero v = when v.hi ≼ whole 0 then Stop Conflict else Out (max_of v.lo eps ‥ v.hi)
-target_of σ GeZero v = when v.hi ≺ whole 0 then Stop Conflict else Out (max_of v.lo (whole 0) ‥ v.hi)
-target_of σ LtZero v = when whole 0 ≼ v.lo then Stop Conflict else Out (v.lo ‥ min_of v.hi (neg eps))
-target_of σ LeZero v = when whole 0 ≺ v.lo then Stop Conflict else Out (v.lo ‥ min_of v.hi (whole 0))
-target_of σ NeZero v = when (width v ≺ σ.slack) && (abs_of v.lo ≺ σ.slack) then Stop Conflict else Nudge
+-- no value in v, which is not empty, compares with zero as the relation says
+unfoldable pub fails : Settings → Relation → Interval → Bool
+fails σ EqZero v = (whole 0 ≺ v.lo) || (v.hi ≺ whole 0)
+fails σ GtZero v = v.hi ≼ whole 0
+fails σ GeZero v = v.hi ≺ whole 0
+fails σ LtZero v = whole 0 ≼ v.lo
+fails σ LeZero v = whole 0 ≺ v.lo
+fails σ NeZero v = (width v ≺ σ.slack) && (abs_of v.lo ≺ σ.slack)
+
+-- what a tree in v is to lie in
+unfoldable pub target_of : Relation → Interval → Option Interval
+target_of EqZero v = Some (whole 0 ‥ whole 0)
+target_of GtZero v = Some (max_of v.lo eps ‥ v.hi)
+target_of GeZero v = Some (max_of v.lo (whole 0) ‥ v.hi)
+target_of LtZero v = Some (v.lo ‥ min_of v.hi (neg eps))
+target_of LeZero v = Some (v.lo ‥ min_of v.hi (whole 0))
+target_of NeZero v = None
 
 -- NeZero moves an end of a bare variable off zero
 unfoldable pub nudge_var : ℕ → List Interval → Narrowed
@@ -146,14 +156,13 @@ nudge_tree (Tree.Const v) b = Stable leaving b
 nudge_tree (Tree.Var i) b = nudge_var i b
 nudge_tree (Tree.Eml l r) b = Stable leaving b
 
-unfoldable pub aim : Settings → Target → Tree → List Interval → Narrowed
-aim σ (Stop w) t b = w leaving b
-aim σ (Out out) t b = backward σ t out b
-aim σ Nudge t b = nudge_tree t b
+unfoldable pub aim : Settings → Option Interval → Tree → List Interval → Narrowed
+aim σ (Some out) t b = backward σ t out b
+aim σ None t b = nudge_tree t b
 
-unfoldable pub narrow_to : Settings → Relation → Tree → Values → List Interval → Narrowed
-narrow_to σ rel t (Within v) b = when is_empty v then Conflict leaving b else aim σ (target_of σ rel v) t b
-narrow_to σ rel t Unknown b = Stable leaving b
+unfoldable pub narrow_to : Settings → Relation → Tree → Option Interval → List Interval → Narrowed
+narrow_to σ rel t (Some v) b = when is_empty v || fails σ rel v then Conflict leaving b else aim σ (target_of rel v) t b
+narrow_to σ rel t None b = Stable leaving b
 
 unfoldable pub narrow_atom : Settings → Relation → Tree → List Interval → Narrowed
 narrow_atom σ rel t b = narrow_to σ rel t (eval_interval b t) b
@@ -166,30 +175,25 @@ hulls (h ∷ hs) [] = []
 hulls (h ∷ hs) (i ∷ is) = hull h i ∷ hulls hs is
 
 unfoldable pub hull_with : Option (List Interval) → List Interval → List Interval
-hull_with none b = b
-hull_with (some hs) b = hulls hs b
+hull_with None b = b
+hull_with (Some hs) b = hulls hs b
 
 -- after one more branch
 unfoldable pub survive : Option (List Interval) → Narrowed → Option (List Interval)
-survive so_far x = when is_conflict x.answer then so_far else some (hull_with so_far x.places)
+survive so_far x = when is_conflict x.answer then so_far else Some (hull_with so_far x.places)
 
 -- the hull, intersected with the original, is written where an end moves
-unfoldable pub tightened : Settings → Interval → Interval → Tightened
-tightened σ h old =
-    let new = intersect h old in
-    when not (is_empty new) && moves σ.slack old new then record { result = Changed; interval = new } else record { result = Stable; interval = old }
+unfoldable pub tightened : Settings → Interval → Interval → Leaving PropResult Interval
+tightened σ h old = let new = intersect h old in when not (is_empty new) && moves σ.slack old new then Changed leaving new else Stable leaving old
 
 unfoldable pub adopt : Settings → List Interval → List Interval → Narrowed
 adopt σ [] is = Stable leaving is
 adopt σ (h ∷ hs) [] = Stable leaving []
-adopt σ (h ∷ hs) (i ∷ is) =
-    let x = tightened σ h i in
-    let rest = adopt σ hs is in
-    worse_of x.result rest.answer leaving (x.interval ∷ rest.places)
+adopt σ (h ∷ hs) (i ∷ is) = let x = tightened σ h i in let rest = adopt σ hs is in worse_of x.answer rest.answer leaving (x.places ∷ rest.places)
 
 unfoldable pub adopt_survivors : Settings → Option (List Interval) → List Interval → Narrowed
-adopt_survivors σ none b = Conflict leaving b
-adopt_survivors σ (some hs) b = adopt σ hs b
+adopt_survivors σ None b = Conflict leaving b
+adopt_survivors σ (Some hs) b = adopt σ hs b
 
 -- each branch of an Or starts from the same boxes; `under` says what is done with a Not
 unfoldable mutual
@@ -197,7 +201,7 @@ unfoldable mutual
   round σ under (Atom rel t) b = narrow_atom σ rel t b
   round σ under (Not c) b = under c b
   round σ under (And cs) b = round_all σ under cs b
-  round σ under (Or cs) b = adopt_survivors σ (survivors σ under cs b none) b
+  round σ under (Or cs) b = adopt_survivors σ (survivors σ under cs b None) b
   round σ under (ForAll v lo hi c) b = Stable leaving b
   round σ under (Exists v lo hi c) b = Stable leaving b
 
