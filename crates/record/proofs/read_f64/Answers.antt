@@ -6,4 +6,4 @@ use Rattle.record.proofs.read_f64.Goals as goal
 
 pub returns : goal.returns
 unfolding f64_at
-returns c = c.f64_from_bits_with_nan.ensures ∙ ap (of_bits binary64) c.read_u64.ensures
+returns c = c.of_bits.ensures ∙ ap (of_bits binary64) c.read_u64.ensures
