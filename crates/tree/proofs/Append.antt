@@ -42,14 +42,16 @@ or_else_assoc zero c d = refl
 or_else_assoc (suc a) c d = refl
 
 module _ (b : List ℕ) (n x y m : ℕ) (t : Tree) where
-  parts : (e : Extent) → IsExtent t e → (operands_refusal b n x y or_else result_refusal (length b) n m e) ≡ append_refusal b n (ltb x n && ltb y n) t m
+  parts : (e : Extent) → IsExtent t e →
+      (operands_refusal b n x y or_else result_refusal (length b) n m e) ≡ append_refusal b n (ltb x n && ltb y n) t m
   unfolding operands_refusal append_refusal result_refusal is_small
   parts e h = or_else_assoc (list_refusal b n) _ _ ∙ simp (h.0, h.1)
 
   pub early : (r : Refusal) → number_of r ≡ operands_refusal b n x y → number_of r ≡ append_refusal b n (ltb x n && ltb y n) t m
   early r e = refuses_first r e _ ∙ parts (record { size = size t; depth = depth t }) (refl, refl)
 
-  pub late : 0 ≡ operands_refusal b n x y → (e : Extent) → IsExtent t e → result_refusal (length b) n m e ≡ append_refusal b n (ltb x n && ltb y n) t m
+  pub late : 0 ≡ operands_refusal b n x y → (e : Extent) → IsExtent t e →
+      result_refusal (length b) n m e ≡ append_refusal b n (ltb x n && ltb y n) t m
   late none e h = ap (λ (r : ℕ). r or_else result_refusal (length b) n m e) none ∙ parts e h
 
 module _ (b : List ℕ) (n x : ℕ) where

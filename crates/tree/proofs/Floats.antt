@@ -19,7 +19,8 @@ fields_finite false b s v h = h
 fields : (s : Bool) (x t : ℕ) → finite (of_fields binary64 s x t) ≡ not (eqb x 2047)
 unfolding of_fields
 fields s zero t = odd_finite 53 s t 0 (low binary64)
-fields s (suc x) t = fields_finite (eqb (suc x) 2047) (eqb t 0) s (odd 53 s (hid binary64 + t) x (low binary64)) (odd_finite 53 s (hid binary64 + t) x (low binary64))
+fields s (suc x) t =
+    fields_finite (eqb (suc x) 2047) (eqb t 0) s (odd 53 s (hid binary64 + t) x (low binary64)) (odd_finite 53 s (hid binary64 + t) x (low binary64))
 
 pub finite_is : (n : ℕ) → finite (of_bits binary64 n) ≡ not (eqb (n % 0x8000_0000_0000_0000 / 0x0010_0000_0000_0000) 2047)
 unfolding of_bits

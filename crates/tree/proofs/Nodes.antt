@@ -26,7 +26,8 @@ module _ (b : List ℕ) (k : ℕ) where
   unfolding node_refusal is_small
   four is e h = simp (is, sym h.0, sym h.1)
 
-pub measured : (t : Tree) (e : Extent) (s : SmallExtent) → IsExtent t e → 0 ≡ (4 unless small_extent e) → (s.size ≡ e.size) × (s.depth ≡ e.depth) → Measured t (widened s)
+pub measured : (t : Tree) (e : Extent) (s : SmallExtent) → IsExtent t e → 0 ≡ (4 unless small_extent e) →
+    (s.size ≡ e.size) × (s.depth ≡ e.depth) → Measured t (widened s)
 measured t e s h f same =
     let w = both (leb e.size 4096) (leb e.depth 128) (none_unless 3 _ (sym f)) in
     record { is = (same.0 ∙ h.0, same.1 ∙ h.1); small = (omega (arith, leb-true _ _ w.0), omega (arith, leb-true _ _ w.1)) }
@@ -62,7 +63,8 @@ blank = record { size = 0; depth = 0 }
 pub held_none : (b : List ℕ) (es : List SmallExtent) → Held b 0 es
 held_none b es = record { few = omega arith; there = omega arith; each = λ k l. absurd (not-suc-le-zero l) }
 
-pub held_more : (b : List ℕ) (k : ℕ) (es : List SmallExtent) (e : SmallExtent) → Held b k es → Measured (tree_at b k) (widened e) → k < 1024 → k < length es → Held b (k + 1) (set es k e)
+pub held_more : (b : List ℕ) (k : ℕ) (es : List SmallExtent) (e : SmallExtent) → Held b k es → Measured (tree_at b k) (widened e) →
+    k < 1024 → k < length es → Held b (k + 1) (set es k e)
 held_more b k es e h m few l = record {
   few = omega arith;
   there = omega (arith, length-set es k e);

@@ -31,15 +31,24 @@ node_test zero left right last k real = rw (below_one left, below_one right) (sy
 node_test (suc zero) left right last k real = rw (below_one left) refl
 node_test (suc (suc zero)) left right last k real = rw (below_one right) (sym (and_assoc (ltb left 16) (eqb right 0) (eqb last 0)))
 node_test (suc (suc (suc zero))) left right last k real = sym (and_assoc (ltb left k) (ltb right k) (eqb last 0))
-node_test (suc (suc (suc (suc n)))) left right last k real = simp (le-ltb (suc (suc (suc (suc n)))) 4 (omega arith), other 0 (omega arith), other 1 (omega arith), other 2 (omega arith), other 3 (omega arith))
+node_test (suc (suc (suc (suc n)))) left right last k real =
+    simp (
+      le-ltb (suc (suc (suc (suc n)))) 4 (omega arith),
+      other 0 (omega arith),
+      other 1 (omega arith),
+      other 2 (omega arith),
+      other 3 (omega arith),
+    )
   where
     other : (j : ℕ) → j < 4 → eqb (suc (suc (suc (suc n)))) j ≡ false
     other j h = ne_eqb (suc (suc (suc (suc n)))) j (λ e. omega (arith, e))
 
 -- the test as `is_node` makes it, of the numbers that it read
-pub node_is : (b : List ℕ) (k kind left right last : ℕ) (real : Bool) → kind ≡ u32_at b (16 * k) → left ≡ u32_at b (16 * k + 4) → right ≡ u32_at b (16 * k + 8) → last ≡ u32_at b (16 * k + 12)
-    → real ≡ finite (f64_at b (16 * k + 8)) → {x y : ℕ} {z : Bool} → x ≡ left_end kind k → y ≡ right_end kind k → z ≡ chosen kind real (ltb right y && eqb last 0)
-    → ((ltb kind 4 && ltb left x) && z) ≡ is_node b k
+pub node_is : (b : List ℕ) (k kind left right last : ℕ) (real : Bool) → kind ≡ u32_at b (16 * k) → left ≡ u32_at b (16 * k + 4) →
+    right ≡ u32_at b (16 * k + 8) → last ≡ u32_at b (16 * k + 12) →
+    real ≡ finite (f64_at b (16 * k + 8)) →
+    {x y : ℕ} {z : Bool} → x ≡ left_end kind k → y ≡ right_end kind k → z ≡ chosen kind real (ltb right y && eqb last 0) →
+    ((ltb kind 4 && ltb left x) && z) ≡ is_node b k
 unfolding is_node
 node_is b k kind left right last real e f g h r u v w = simp (u, w, v, sym e, sym f, sym g, sym h, sym r) (node_test kind left right last k real)
 
@@ -57,7 +66,8 @@ module _ (b : List ℕ) (k kind : ℕ) (e : kind ≡ u32_at b (16 * k)) where
   unfolding node_at when◌then◌else◌
   reads_var i z f = simp (sym e ∙ z, f)
 
-  pub reads_eml : (l r : ℕ) → (kind ≡ 0 → ⊥) → (kind ≡ 1 → ⊥) → (kind ≡ 2 → ⊥) → l ≡ u32_at b (16 * k + 4) → r ≡ u32_at b (16 * k + 8) → Node.Eml l r ≡ node_at b k
+  pub reads_eml : (l r : ℕ) → (kind ≡ 0 → ⊥) → (kind ≡ 1 → ⊥) → (kind ≡ 2 → ⊥) → l ≡ u32_at b (16 * k + 4) → r ≡ u32_at b (16 * k + 8) →
+      Node.Eml l r ≡ node_at b k
   unfolding node_at when◌then◌else◌
   reads_eml l r x y z f g = simp (sym e, ne_eqb _ _ x, ne_eqb _ _ y, ne_eqb _ _ z, f, g)
 

@@ -73,16 +73,20 @@ module _ (c : List ℕ) (k n : ℕ) (is : n ≡ k + 1) (v : Valid c k) (few : n 
       (more w.1 (ap is_small e ∙ small), e)
 
 -- the four of ln
-module _ (c : List ℕ) (k x : ℕ) (t : Tree) (v : Valid c k) (few : k + 4 ≤ 1024) (there : 16 * (k + 4) ≤ length c) (l : x < k) (tx : tree_at c x ≡ t) (small : is_small (ln_tree t) ≡ true)
-    (one : Has c k Node.One) (inner : Has c (k + 1) (Node.Eml k x)) (middle : Has c (k + 2) (Node.Eml (k + 1) k)) (outer : Has c (k + 3) (Node.Eml k (k + 2))) where
+module _ (c : List ℕ) (k x : ℕ) (t : Tree) (v : Valid c k) (few : k + 4 ≤ 1024) (there : 16 * (k + 4) ≤ length c)
+    (l : x < k) (tx : tree_at c x ≡ t) (small : is_small (ln_tree t) ≡ true)
+    (one : Has c k Node.One) (inner : Has c (k + 1) (Node.Eml k x)) (middle : Has c (k + 2) (Node.Eml (k + 1) k))
+    (outer : Has c (k + 3) (Node.Eml k (k + 2))) where
   add_ln : Valid c (k + 4) × (tree_at c (k + 3) ≡ ln_tree t)
   add_ln =
       let s = (small_children Tree.One (Tree.Eml (Tree.Eml Tree.One t) Tree.One) small).1 in
       let a = add_one c k (k + 1) refl v (omega arith) (omega arith) one in
       let i = add_eml c (k + 1) (k + 2) (omega arith) a.0 (omega arith) (omega arith) k x Tree.One t a.1 tx (omega arith) (omega arith) inner
       (small_children (Tree.Eml Tree.One t) Tree.One s).0 in
-      let m = add_eml c (k + 2) (k + 3) (omega arith) i.0 (omega arith) (omega arith) (k + 1) k (Tree.Eml Tree.One t) Tree.One i.1 a.1 (omega arith) (omega arith) middle s in
-      add_eml c (k + 3) (k + 4) (omega arith) m.0 few there k (k + 2) Tree.One (Tree.Eml (Tree.Eml Tree.One t) Tree.One) a.1 m.1 (omega arith) (omega arith) outer small
+      let m = add_eml c (k + 2) (k + 3) (omega arith) i.0 (omega arith) (omega arith) (k + 1) k (Tree.Eml Tree.One t) Tree.One i.1 a.1
+      (omega arith) (omega arith) middle s in
+      add_eml c (k + 3) (k + 4) (omega arith) m.0 few there k (k + 2) Tree.One (Tree.Eml (Tree.Eml Tree.One t) Tree.One) a.1 m.1
+      (omega arith) (omega arith) outer small
 
 -- ---- the list after m nodes were appended
 module _ (b : List ℕ) (n : ℕ) (xs : List Node) (there : 16 * (n + length xs) ≤ length b) where
@@ -116,7 +120,8 @@ module _ (b : List ℕ) (n x : ℕ) (e : ln_refusal b n x ≡ 0) where
       let has = has b n xs w.1.there in
       let r = add_ln c n x (tree_at b x) (older_valid b n xs w.1.there w.1.valid) w.1.few (rw (length-sets b (16 * n) (nodes_bytes xs)) w.1.there) w.0
       (older b n xs w.1.there x w.0) w.1.small
-      (has 0 n (omega arith) (omega arith)) (has 1 (n + 1) (omega arith) refl) (has 2 (n + 2) (omega arith) refl) (has 3 (n + 3) (omega arith) refl) in
+      (has 0 n (omega arith) (omega arith)) (has 1 (n + 1) (omega arith) refl) (has 2 (n + 2) (omega arith) refl)
+      (has 3 (n + 3) (omega arith) refl) in
       record { result = r.1; older = older b n xs w.1.there; valid = subst (Valid c) (omega arith) r.0 }
 
 module _ (b : List ℕ) (n x y : ℕ) (e : sub_refusal b n x y ≡ 0) where
@@ -134,12 +139,15 @@ module _ (b : List ℕ) (n x y : ℕ) (e : sub_refusal b n x y ≡ 0) where
       let s = small_children (ln_tree t) (Tree.Eml u Tree.One) a.small in
       let one = add_one c n (n + 1) refl (older_valid b n xs a.there a.valid) (omega arith) (omega arith) (has 0 n (omega arith) (omega arith)) in
       let ln = add_ln c (n + 1) x t one.0 (omega arith) (omega arith) (omega arith) (old x w.0) s.0
-      (has 1 (n + 1) (omega arith) refl) (has 2 (n + 1 + 1) (omega arith) (omega arith)) (has 3 (n + 1 + 2) (omega arith) (omega arith)) (has 4 (n + 1 + 3) (omega arith) (omega arith)) in
+      (has 1 (n + 1) (omega arith) refl) (has 2 (n + 1 + 1) (omega arith) (omega arith)) (has 3 (n + 1 + 2) (omega arith) (omega arith))
+      (has 4 (n + 1 + 3) (omega arith) (omega arith)) in
       let at : n + 4 ≡ n + 1 + 3 = omega arith in
       let outer = ap (tree_at c) at ∙ ln.1 in
-      let exp = add_eml c (n + 5) (n + 6) (omega arith) (subst (Valid c) (omega arith) ln.0) (omega arith) (omega arith) y n u Tree.One (old y w.1) one.1 (omega arith) (omega arith)
+      let exp = add_eml c (n + 5) (n + 6) (omega arith) (subst (Valid c) (omega arith) ln.0) (omega arith) (omega arith)
+      y n u Tree.One (old y w.1) one.1 (omega arith) (omega arith)
       (has 5 (n + 5) (omega arith) refl) s.1 in
-      let r = add_eml c (n + 6) (n + 7) (omega arith) exp.0 a.few room (n + 4) (n + 5) (ln_tree t) (Tree.Eml u Tree.One) outer exp.1 (omega arith) (omega arith)
+      let r = add_eml c (n + 6) (n + 7) (omega arith) exp.0 a.few room (n + 4) (n + 5)
+      (ln_tree t) (Tree.Eml u Tree.One) outer exp.1 (omega arith) (omega arith)
       (has 6 (n + 6) (omega arith) refl) a.small in
       record { result = r.1; older = old; valid = subst (Valid c) (omega arith) r.0 }
 

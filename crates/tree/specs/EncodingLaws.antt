@@ -35,18 +35,22 @@ pub one_node : (b : List ℕ) {b₁ : List ℕ} (k : ℕ) (x : Node) → b₁ �
 unfolding nodes_bytes
 one_node b k x e = e ∙ ap (sets b (16 * k)) (sym (append-nil (node_bytes x)))
 
-pub then_nodes : (b : List ℕ) {b₁ b₂ : List ℕ} (k j : ℕ) (xs ys : List Node) → b₁ ≡ sets b (16 * k) (nodes_bytes xs) → b₂ ≡ sets b₁ (16 * j) (nodes_bytes ys) → j ≡ k + length xs →
+pub then_nodes : (b : List ℕ) {b₁ b₂ : List ℕ} (k j : ℕ) (xs ys : List Node) → b₁ ≡ sets b (16 * k) (nodes_bytes xs) →
+    b₂ ≡ sets b₁ (16 * j) (nodes_bytes ys) → j ≡ k + length xs →
     b₂ ≡ sets b (16 * k) (nodes_bytes (xs ++ ys))
 then_nodes b k j xs ys e₁ e₂ h =
-    then_bytes b (16 * k) (16 * j) (nodes_bytes xs) (nodes_bytes ys) e₁ e₂ (omega (arith, length_nodes xs)) ∙ ap (sets b (16 * k)) (nodes_append xs ys)
+    then_bytes b (16 * k) (16 * j) (nodes_bytes xs) (nodes_bytes ys) e₁ e₂ (omega (arith, length_nodes xs))
+    ∙ ap (sets b (16 * k)) (nodes_append xs ys)
 
-pub then_node : (b : List ℕ) {b₁ b₂ : List ℕ} (k j : ℕ) (xs : List Node) (x : Node) → b₁ ≡ sets b (16 * k) (nodes_bytes xs) → b₂ ≡ sets b₁ (16 * j) (node_bytes x) → j ≡ k + length xs →
+pub then_node : (b : List ℕ) {b₁ b₂ : List ℕ} (k j : ℕ) (xs : List Node) (x : Node) → b₁ ≡ sets b (16 * k) (nodes_bytes xs) →
+    b₂ ≡ sets b₁ (16 * j) (node_bytes x) → j ≡ k + length xs →
     b₂ ≡ sets b (16 * k) (nodes_bytes (xs ++ x ∷ []))
 then_node b {b₁} k j xs x e₁ e₂ h = then_nodes b k j xs (x ∷ []) e₁ (one_node b₁ j x e₂) h
 
 -- ---- what is read after a store
 -- byte o of node j
-pub node_byte : (xs : List Node) (j o : ℕ) → j < length xs → o < 16 → get_or (nodes_bytes xs) (16 * j + o) 0 ≡ get_or (node_bytes (get_or xs j Node.One)) o 0
+pub node_byte : (xs : List Node) (j o : ℕ) → j < length xs → o < 16 →
+    get_or (nodes_bytes xs) (16 * j + o) 0 ≡ get_or (node_bytes (get_or xs j Node.One)) o 0
 unfolding nodes_bytes
 node_byte [] j o h l = absurd (omega arith)
 node_byte (x ∷ xs) zero o h l =

@@ -1,10 +1,11 @@
 -- Node lists, computed.
-use Rattle.std.specs.Prelude.{ℕ, ◌≡◌, refl, List, [], ◌∷◌, ◌++◌, length, set, replicate}
+use Rattle.std.specs.Prelude.{ℕ, ◌≡◌, refl, List, [], ◌∷◌, ◌++◌, length, set, replicate, Ok, Err}
 use Rattle.number.specs.Notation.{bits}
 use Rattle.tree.specs.Tree.{One, Const, Var, Eml}
 use Rattle.tree.specs.Nodes.{tree_at, list_refusal}
 use Rattle.tree.specs.Encoding.{node_bytes, nodes_bytes}
-use Rattle.tree.specs.Canonical.{ln_refusal}
+use Rattle.tree.specs.Canonical.{ln_refusal, ln}
+use Rattle.record.specs.Leaving.{◌leaving◌}
 use Rattle.tree.specs.Computing.{computing}
 use Rattle.tree.specs.declared.Node.{Node}
 
@@ -60,7 +61,9 @@ abbrev doubled : ℕ → List Node
 doubled n = Node.Eml n n ∷ []
 
 abbrev twelve : List Node
-twelve = Node.One ∷ doubled 0 ++ doubled 1 ++ doubled 2 ++ doubled 3 ++ doubled 4 ++ doubled 5 ++ doubled 6 ++ doubled 7 ++ doubled 8 ++ doubled 9 ++ doubled 10
+twelve =
+    Node.One ∷ doubled 0 ++ doubled 1 ++ doubled 2 ++ doubled 3 ++ doubled 4 ++ doubled 5 ++ doubled 6
+    ++ doubled 7 ++ doubled 8 ++ doubled 9 ++ doubled 10
 
 size_4095 : refusal twelve ≡ 0
 unfolding computing
@@ -86,3 +89,12 @@ ln_short = refl
 ln_fits : ln_refusal (nodes_bytes some) 1 0 ≡ 0
 unfolding computing
 ln_fits = refl
+
+-- what the calls answer, and leave
+ln_refused : ln (nodes_bytes some) 2 0 ≡ (Err 10 leaving nodes_bytes some)
+unfolding computing
+ln_refused = refl
+
+ln_answers : ln (nodes_bytes some) 1 0 ≡ (Ok 4 leaving nodes_bytes (Node.One ∷ Node.One ∷ Node.Eml 1 0 ∷ Node.Eml 2 1 ∷ Node.Eml 1 3 ∷ []))
+unfolding computing
+ln_answers = refl

@@ -1,4 +1,5 @@
--- A node's record is its sixteen bytes: equal bytes make equal nodes, and nodes that lie below a place do not depend on the bytes from there on. Assumes nothing.
+-- A node's record is its sixteen bytes: equal bytes make equal nodes, and nodes that lie below a place do not
+-- depend on the bytes from there on. Assumes nothing.
 use Prim.Native.Nat.{ℕ, zero, suc, ◌+◌, ◌*◌, ◌^◌, ◌≤◌, ◌<◌}
 use Rattle.std.specs.Prelude.{◌≡◌, length, get_or}
 use Rattle.std.proofs.Math.Path.{refl, ap₂}

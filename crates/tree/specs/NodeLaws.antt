@@ -56,7 +56,8 @@ Right own (Node.Var i) = i < 16
 Right own (Node.Eml l r) = (l < own) × (r < own)
 
 right_of : (own l r : ℕ) (v : Float) (one const var eml l0 r0 z0 : Bool) →
-    T (when one then l0 && r0 && z0 else when const then l0 && finite v else when var then ltb l 16 && r0 && z0 else when eml then ltb l own && ltb r own && z0 else false) →
+    T (when one then l0 && r0 && z0 else when const then l0 && finite v else when var then ltb l 16 && r0 && z0
+    else when eml then ltb l own && ltb r own && z0 else false) →
     Right own (when one then Node.One else when const then Node.Const v else when var then Node.Var l else Node.Eml l r)
 unfolding when◌then◌else◌
 right_of own l r v true const var eml l0 r0 z0 h = tt
@@ -72,7 +73,8 @@ unfolding is_node node_at
 right b k e =
     let at = 16 * k in
     let kind = u32_at b at in
-    right_of k _ _ _ (eqb kind 0) (eqb kind 1) (eqb kind 2) (eqb kind 3) (eqb (u32_at b (at + 4)) 0) (eqb (u32_at b (at + 8)) 0) (eqb (u32_at b (at + 12)) 0) (subst T (sym e) tt)
+    right_of k _ _ _ (eqb kind 0) (eqb kind 1) (eqb kind 2) (eqb kind 3)
+    (eqb (u32_at b (at + 4)) 0) (eqb (u32_at b (at + 8)) 0) (eqb (u32_at b (at + 12)) 0) (subst T (sym e) tt)
 
 pub children : (b : List ℕ) (k i j : ℕ) → is_node b k ≡ true → node_at b k ≡ Node.Eml i j → (i < k) × (j < k)
 children b k i j is e = subst (Right k) e (right b k is)

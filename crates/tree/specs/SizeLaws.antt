@@ -6,7 +6,8 @@ use Rattle.tree.specs.Code.{size_at, largest, Within}
 largest_within : (b : List ℕ) (n : ℕ) → Within b n (largest b n)
 unfolding largest
 largest_within b zero k h = absurd (not-suc-le-zero h)
-largest_within b (suc n) k h = ⊎_elim (λ q. omega (arith, ap (size_at b) q)) (λ q. omega (arith, largest_within b n k q)) (eq-or-lt_of_le (le_of_suc-le-suc h))
+largest_within b (suc n) k h =
+    ⊎_elim (λ q. omega (arith, ap (size_at b) q)) (λ q. omega (arith, largest_within b n k q)) (eq-or-lt_of_le (le_of_suc-le-suc h))
 
 pub list_within : (b : List ℕ) (n : ℕ) {m : ℕ} → m ≡ largest b n → Within b n m
 list_within b n q = subst (Within b n) (sym q) (largest_within b n)

@@ -12,7 +12,8 @@ ghost use Rattle.record.specs.Refused.{refusal_of, numbered};
 ghost use Rattle.record.specs.Leaving.{◌leaving◌};
 ghost use Rattle.tree.specs.Tree.{Tree, tree_vars};
 ghost use Rattle.tree.specs.Nodes.{node_at, is_node, nodes_fit, list_refusal, Valid};
-ghost use Rattle.tree.specs.Code.{right_end, left_end, chosen, IsExtent, small_extent, Small, Measured, Held, largest, operands_refusal, result_refusal};
+ghost use Rattle.tree.specs.Code.{right_end, left_end, chosen, IsExtent, small_extent, Small, Measured, Held, largest};
+ghost use Rattle.tree.specs.Code.{operands_refusal, result_refusal};
 ghost use Rattle.tree.specs.Canonical.{ln_tree, sub_tree, ln_nodes, sub_nodes, ln_refusal, sub_refusal, ln as ln_of, sub as sub_of};
 ghost use Rattle.tree.specs.Encoding.{node_bytes, nodes_bytes};
 ghost use Rattle.tree.specs.Views.{the_tree};
@@ -96,7 +97,7 @@ pub fn node_in(nodes: &[u8], k: usize) -> Node
     }
 }
 
-// ---- the tests of a list
+// ---- the tests of a list, of count nodes: C lends the bytes with the count beside, and free places may follow
 
 // The expanded size and the depth of a tree.
 #[derive(Clone, Copy)]
@@ -105,7 +106,7 @@ struct Extent {
     depth: usize,
 }
 
-// An accepted tree's: the shorter a list of them, the quicker it is cleared.
+// An accepted tree's, in four bytes: each call clears a list of them.
 #[derive(Clone, Copy)]
 struct SmallExtent {
     size: u16,
@@ -116,7 +117,7 @@ struct SmallExtent {
 const ONE: Extent = Extent { size: 1, depth: 1 };
 
 // What a place holds before its node is met.
-const NONE: SmallExtent = SmallExtent { size: 0, depth: 0 };
+const BLANK: SmallExtent = SmallExtent { size: 0, depth: 0 };
 
 impl From<SmallExtent> for Extent {
     ghost from_gives = { λ s e. (e.size ≡ s.size) × (e.depth ≡ s.depth) };
@@ -216,12 +217,13 @@ fn test_nodes(nodes: &[u8], count: usize, extents: &mut [SmallExtent]) -> Result
     Ok(largest)
 }
 
+// With N places for the extents.
 fn test_within<const N: usize>(nodes: &[u8], count: usize) -> Result<usize, Refusal>
     requires { (min count 1024 ≤ N) × (N ≤ 1024) }
     ensures refusal { refusal_of result ≡ list_refusal nodes.now count }
     ensures value { IfOk result (λ m. m ≡ largest nodes.now count) }
 {
-    let mut extents = [NONE; N];
+    let mut extents = [BLANK; N];
     test_nodes(nodes, count, &mut extents)
 }
 
@@ -269,7 +271,7 @@ fn measure_operands(
     ensures refusal { refusal_of result ≡ operands_refusal nodes.now count x y }
     ensures value { IfOk result (λ o. Measured (the_tree nodes x) o.0 × Measured (the_tree nodes y) o.1) }
 {
-    let mut extents = [NONE; 1024];
+    let mut extents = [BLANK; 1024];
     test_nodes(nodes, count, &mut extents)?;
     if count <= x || count <= y {
         return Err(Refusal::Node);
