@@ -1,55 +1,52 @@
--- What flattening a tree writes. Assumes nothing.
-use Prim.Native.Nat.{ℕ, ◌<◌, ◌≤◌, ◌+◌, ◌*◌}
-use mathlib.Core.Path.{◌≡◌, sym, ap, ◌∙◌}
-use mathlib.Core.Logic.{⊎_elim}
-use mathlib.Core.List.{List, [], ◌∷◌, ◌++◌, map-append, append_assoc}
+-- What flattening a tree writes: what the node's children write, and then the node's number. Assumes nothing.
+use Prim.Native.Nat.{ℕ, ◌<◌, ◌≤◌, ◌+◌, ◌-◌, ◌*◌}
+use mathlib.Core.Path.{◌≡◌, refl, sym, ap, ◌∙◌}
+use mathlib.Core.List.{List, [], ◌∷◌, ◌++◌, map-append}
 use native.Mathlib.Omega.{arith}
-use native.Mathlib.Numerals.{add-one}
-use native.Mathlib.Decide.{ℕ_discrete}
-use types.Run.{OneOf}
-use denote.Enum.Declared.{tag_of}
-use lib.ListN.{length, get_or, take, set}
-use lib.Seq.{take-suc-set, get_or-set_same, get_or-set_other}
-use Rattle.tree.specs.contracts.Node.{the_type}
+use borrow.Rule.Slice.PartMut.{put_mid, post_of}
+use lib.ListN.{length, take, drop, set, length-take, length-drop}
+use lib.Seq.{length-take-le, take-append-add}
+use Rattle.std.proofs.lemmas.List.{take-append-le}
+use Rattle.std.proofs.lemmas.Grind.{common_steps}
+use Rattle.std.proofs.lemmas.List.Elements.{All-append, All-push}
 use Rattle.tree.specs.declared.Node.{Node}
 use Rattle.tree.specs.Tree.{Tree, size}
 use Rattle.tree.specs.Nodes.{node_at, tree_at, Valid}
 use Rattle.tree.specs.NodeLaws.{tree_one, tree_const, tree_var, tree_eml, children_below, in_bytes, prefix}
-use Rattle.point.specs.declared.eval.Instruction.{Instruction}
 use Rattle.point.specs.Machine.{instruction_of, instructions, Numbers, Flattened, postorder}
 
-module _ (b order : List ℕ) (at x : ℕ) (h : at < length order) where
-  stored : instructions b (set order at x) (at + 1) ≡ instructions b order at ++ (instruction_of (node_at b x) ∷ [])
-  stored = rw (add-one at, take-suc-set order at x h) (map-append _ (take at order) (x ∷ []))
+take_set : (n x : ℕ) (order : List ℕ) → n < length order → take (n + 1) (set order n x) ≡ take n order ++ x ∷ []
+take_set n x order h = grind (arith, common_steps)
 
-  numbered : 16 * x + 16 ≤ length b → Numbers b order at → Numbers b (set order at x) (at + 1)
-  numbered k m = record { there = λ j g. go j g (ℕ_discrete j at) }
-    where
-      go : (j : ℕ) → j < at + 1 → Dec (j ≡ at) → 16 * get_or (set order at x) j 0 + 16 ≤ length b
-      go j g (yes e) = rw (e, get_or-set_same order at x 0 h) k
-      go j g (no e) = rw (get_or-set_other order at j x 0 e) (m.there j (omega arith))
+take_both : (m r k : ℕ) (order part : List ℕ) → m ≤ length order → r ≤ length part → take (m + r) (put_mid m k order part) ≡ take m order ++ take r part
+take_both m r k order part h g =
+    ap (λ (n : ℕ). take (n + r) (put_mid m k order part)) (sym (length-take-le m order h))
+    ∙ take-append-add (take m order) (part ++ post_of m k order) r
+    ∙ ap (λ (l : List ℕ). take m order ++ l) (take-append-le r part (post_of m k order) g)
 
--- a node that is no Eml
-alone : (b : List ℕ) (k : ℕ) (x : Node) → node_at b k ≡ x → OneOf (0 ∷ 1 ∷ 2 ∷ []) (tag_of the_type x) → (postorder (tree_at b k) ≡ instruction_of x ∷ []) × (size (tree_at b k) ≡ 1)
-unfolding postorder size
-alone b k Node.One e w = let t = tree_one b k e in (ap postorder t, ap size t)
-alone b k (Node.Const v) e w = let t = tree_const b k v e in (ap postorder t, ap size t)
-alone b k (Node.Var i) e w = let t = tree_var b k i e in (ap postorder t, ap size t)
-alone b k (Node.Eml l r) e w = absurd (⊎_elim (λ q. omega arith) (⊎_elim (λ q. omega arith) (λ q. omega arith)) w)
+-- what node k's children wrote into the first n places
+pub record Children (b : List ℕ) (k : ℕ) (order : List ℕ) (n : ℕ) : Type 0 where
+  pub many : n + 1 ≡ size (tree_at b k)
+  pub holds : instructions b (take n order) ++ (instruction_of (node_at b k) ∷ []) ≡ postorder (tree_at b k)
+  pub numbers : Numbers b (take n order)
 
 module _ (b : List ℕ) (k : ℕ) (v : Valid b (k + 1)) where
-  own : 16 * k + 16 ≤ length b
-  own = in_bytes b (k + 1) v k (omega arith)
+  abbrev Record : ℕ → Type 0
+  Record j = 16 * j + 16 ≤ length b
 
-  pub leaf : (x : Node) → x ≡ node_at b k → OneOf (0 ∷ 1 ∷ 2 ∷ []) (tag_of the_type x) → (order : List ℕ) (at : ℕ) → at < length order →
-      Flattened b order (set order at k) at (at + 1) (tree_at b k)
-  leaf x e w order at h =
-      let a = alone b k x (sym e) w in
-      record {
-        next = sym (ap (λ (m : ℕ). at + m) a.1);
-        holds = stored b order at k h ∙ ap (λ (c : List Instruction). instructions b order at ++ c) (sym (a.0 ∙ ap (λ (y : Node). instruction_of y ∷ []) e));
-        numbers = numbered b order at k h own;
-      }
+  -- none
+  pub alone : (order : List ℕ) → ((i j : ℕ) → node_at b k ≡ Node.Eml i j → ⊥) → Children b k order 0
+  unfolding postorder size
+  alone order other = go (node_at b k) refl
+    where
+      leaf : {x : Node} {t : Tree} → node_at b k ≡ x → tree_at b k ≡ t → postorder t ≡ instruction_of x ∷ [] → size t ≡ 1 → Children b k order 0
+      leaf e f g h = record { many = sym (ap size f ∙ h); holds = ap (λ (y : Node). instruction_of y ∷ []) e ∙ sym (ap postorder f ∙ g); numbers = λ j d l. absurd (omega arith) }
+
+      go : (x : Node) → node_at b k ≡ x → Children b k order 0
+      go Node.One e = leaf e (tree_one b k e) refl refl
+      go (Node.Const c) e = leaf e (tree_const b k c e) refl refl
+      go (Node.Var i) e = leaf e (tree_var b k i e) refl refl
+      go (Node.Eml i j) e = absurd (other i j e)
 
   module _ (i j : ℕ) (e : node_at b k ≡ Node.Eml i j) where
     pub lower : (i < k) × (j < k) × Valid b (i + 1) × Valid b (j + 1)
@@ -62,20 +59,24 @@ module _ (b : List ℕ) (k : ℕ) (v : Valid b (k + 1)) where
     unfolding size
     sizes = ap size is_eml
 
-    pub node : (before middle after : List ℕ) (at m r : ℕ) → Flattened b before middle at m (tree_at b i) → Flattened b middle after m r (tree_at b j) → r < length after →
-        Flattened b before (set after r k) at (r + 1) (tree_at b k)
+    -- the left's, and the right's in the rest
+    pub both : {order part : List ℕ} {m r : ℕ} (before : List ℕ) (n : ℕ) → Flattened b order m (tree_at b i) → Flattened b part r (tree_at b j) →
+        size (tree_at b k) ≤ length before → length order ≡ length before → length part ≡ length (take (length order - m) (drop m order)) → Children b k (put_mid m n order part) (m + r)
     unfolding postorder
-    node before middle after at m r f g h = record {
-      next = let s = sizes in let u = f.next in let w = g.next in omega arith;
-      holds =
-          let c : (instructions b before at ++ postorder (tree_at b i) ++ postorder (tree_at b j)) ++ (Instruction.Eml ∷ []) ≡ instructions b before at ++ (postorder (tree_at b i) ++ postorder (tree_at b j) ++ (Instruction.Eml ∷ [])) = simp append_assoc in
-          stored b after r k h
-          ∙ ap (λ (y : Node). instructions b after r ++ (instruction_of y ∷ [])) e
-          ∙ ap (λ (d : List Instruction). d ++ (Instruction.Eml ∷ [])) (g.holds ∙ ap (λ (d : List Instruction). d ++ postorder (tree_at b j)) f.holds)
-          ∙ c
-          ∙ ap (λ (t : Tree). instructions b before at ++ postorder t) (sym is_eml);
-      numbers = λ q. numbered b after r k h own (g.numbers (f.numbers q));
-    }
+    both {order} {part} {m} {r} before n f g room same rest =
+        let s = sizes in
+        let l : length part ≡ length order - m = rest ∙ simp (length-take, length-drop) (omega arith) in
+        let t = take_both m r n order part (omega (arith, f.many)) (omega (arith, f.many, g.many)) in record {
+          many = omega (arith, f.many, g.many);
+          holds = rw (t, map-append _ (take m order) (take r part), f.holds, g.holds, e, is_eml) refl;
+          numbers = rw t (All-append Record (take m order) (take r part) f.numbers g.numbers);
+        }
 
-pub no_numbers : (b order : List ℕ) → Numbers b order 0
-no_numbers b order = record { there = λ j g. absurd (omega arith) }
+  -- the node's own number
+  pub node : {order : List ℕ} {n : ℕ} → Children b k order n → n < length order → Flattened b (set order n k) (n + 1) (tree_at b k)
+  node {order} {n} c h =
+      let t = take_set n k order h in record {
+        many = c.many;
+        holds = rw (t, map-append _ (take n order) (k ∷ [])) c.holds;
+        numbers = rw t (All-push Record (take n order) k c.numbers (in_bytes b (k + 1) v k (omega arith)));
+      }

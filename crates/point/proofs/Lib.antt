@@ -2,8 +2,5 @@ mod Threshold
 mod Machine
 mod Flattening
 mod Loop
-mod Shapes
-mod Sampling
-mod Checking
-mod Residuals
+mod Measuring
 mod Answers

@@ -4,15 +4,15 @@ use mathlib.Core.Path.{◌≡◌, refl, sym, ap, ◌∙◌, subst}
 use mathlib.Core.List.{List, [], ◌∷◌, ◌++◌, append_assoc, append-nil}
 use native.Mathlib.Omega.{arith}
 use lib.Ieee.{Float}
+use Rattle.std.specs.Prelude.{Result, Ok, Err}
 use Rattle.maths.specs.declared.Complex.{Complex}
 use Rattle.settings.specs.declared.Settings.{Settings}
 use Rattle.tree.specs.Tree.{Tree, size, depth}
 use Rattle.point.specs.declared.eval.Instruction.{Instruction}
 use Rattle.point.specs.declared.eval.Instruction.TheVariants.{Eml}
-use Rattle.point.specs.declared.eval.EvaluatedComplex.{EvaluatedComplex}
-use Rattle.point.specs.declared.eval.EvaluatedComplex.TheVariants.{Value, Failed}
+use Rattle.point.specs.declared.eval.EvalError.{EvalError}
 use Rattle.point.specs.Eval.{eml_complex, eval_complex, and_then}
-use Rattle.point.specs.Machine.{postorder, Stack, pushed, reduced, step, onwards, run, result, Balanced}
+use Rattle.point.specs.Machine.{postorder, Outcome, pushed, reduced, step, run, top, Balanced}
 
 pub positive : (t : Tree) → 1 ≤ size t
 unfolding size
@@ -22,24 +22,24 @@ positive (Tree.Var i) = omega arith
 positive (Tree.Eml l r) = omega arith
 
 -- right's outcome, after left's value a, and then the node's
-after_right : (σ : Settings) (y : EvaluatedComplex) (a : Complex) (s : List Complex) (f : List Complex → Stack) →
-    onwards (pushed y (a ∷ s)) (λ u. onwards (reduced σ u) f) ≡ onwards (pushed (and_then y (λ b. eml_complex σ a b)) s) f
-after_right σ (Value b) a s f = refl
-after_right σ (Failed e) a s f = refl
+after_right : (σ : Settings) (y : Result Complex EvalError) (a : Complex) (s : List Complex) (f : List Complex → Outcome) →
+    and_then (pushed y (a ∷ s)) (λ u. and_then (reduced σ u) f) ≡ and_then (pushed (and_then y (λ b. eml_complex σ a b)) s) f
+after_right σ (Ok b) a s f = refl
+after_right σ (Err e) a s f = refl
 
 -- left's outcome, right's, and then the node's
-after_left : (σ : Settings) (x y : EvaluatedComplex) (s : List Complex) (g f : List Complex → Stack) →
-    ((a : Complex) → g (a ∷ s) ≡ onwards (pushed y (a ∷ s)) (λ u. onwards (reduced σ u) f)) →
-    onwards (pushed x s) g ≡ onwards (pushed (and_then x (λ a. and_then y (λ b. eml_complex σ a b))) s) f
-after_left σ (Value a) y s g f e = e a ∙ after_right σ y a s f
-after_left σ (Failed x) y s g f e = refl
+after_left : (σ : Settings) (x y : Result Complex EvalError) (s : List Complex) (g f : List Complex → Outcome) →
+    ((a : Complex) → g (a ∷ s) ≡ and_then (pushed y (a ∷ s)) (λ u. and_then (reduced σ u) f)) →
+    and_then (pushed x s) g ≡ and_then (pushed (and_then x (λ a. and_then y (λ b. eml_complex σ a b))) s) f
+after_left σ (Ok a) y s g f e = e a ∙ after_right σ y a s f
+after_left σ (Err x) y s g f e = refl
 
 joined : (l r : Tree) (is : List Instruction) → postorder (Tree.Eml l r) ++ is ≡ postorder l ++ (postorder r ++ (Eml ∷ is))
 unfolding postorder
 joined l r is = simp append_assoc
 
 module _ (σ : Settings) (p : List Float) where
-  run_postorder : (t : Tree) (is : List Instruction) (s : List Complex) → run σ p (postorder t ++ is) s ≡ onwards (pushed (eval_complex σ p t) s) (λ u. run σ p is u)
+  run_postorder : (t : Tree) (is : List Instruction) (s : List Complex) → run σ p (postorder t ++ is) s ≡ and_then (pushed (eval_complex σ p t) s) (λ u. run σ p is u)
   unfolding run step postorder eval_complex
   run_postorder Tree.One is s = refl
   run_postorder (Tree.Const v) is s = refl
@@ -49,14 +49,14 @@ module _ (σ : Settings) (p : List Float) where
       ∙ run_postorder l (postorder r ++ (Eml ∷ is)) s
       ∙ after_left σ (eval_complex σ p l) (eval_complex σ p r) s (λ u. run σ p (postorder r ++ (Eml ∷ is)) u) (λ u. run σ p is u) (λ a. run_postorder r (Eml ∷ is) (a ∷ s))
 
-  result_of : (x : EvaluatedComplex) → result (onwards (pushed x []) (λ u. run σ p [] u)) ≡ x
+  top_of : (x : Result Complex EvalError) → and_then (and_then (pushed x []) (λ u. run σ p [] u)) top ≡ x
   unfolding run
-  result_of (Value z) = refl
-  result_of (Failed e) = refl
+  top_of (Ok z) = refl
+  top_of (Err e) = refl
 
   -- what the machine answers for a tree's instructions
-  pub answers : (t : Tree) (is : List Instruction) → is ≡ postorder t → result (run σ p is []) ≡ eval_complex σ p t
-  answers t is e = ap (λ (c : List Instruction). result (run σ p c [])) (e ∙ sym (append-nil (postorder t))) ∙ ap result (run_postorder t [] []) ∙ result_of (eval_complex σ p t)
+  pub answers : (t : Tree) (is : List Instruction) → is ≡ postorder t → and_then (run σ p is []) top ≡ eval_complex σ p t
+  answers t is e = ap (λ (c : List Instruction). and_then (run σ p c []) top) (e ∙ sym (append-nil (postorder t))) ∙ ap (λ (o : Outcome). and_then o top) (run_postorder t [] []) ∙ top_of (eval_complex σ p t)
 
 -- the tree's depth bounds the stack
 deep : (cap h : ℕ) (t : Tree) (is : List Instruction) → h + depth t ≤ cap → Balanced cap (h + 1) is → Balanced cap h (postorder t ++ is)

@@ -1,15 +1,12 @@
 -- The calls on records given without a file: the answer with the settings σ, or document 01's number of a refusal. The records are
 -- tested in the reader's order, then 9 for a point of over 16 values. Document 01's own calls are these with its own settings.
-use Rattle.std.specs.Prelude.{ℕ, ◌/◌, ◌%◌, List, leb, ltb, eqb, Float, length}
+use Rattle.std.specs.Prelude.{ℕ, ◌/◌, ◌%◌, Bool, List, leb, ltb, eqb, Float, length, Result, Ok, Err}
 use Rattle.settings.specs.declared.Settings.{Settings}
 use Rattle.record.specs.Refusal.{◌or_else◌, ◌unless◌, refused_or}
 use Rattle.tree.specs.Nodes.{tree_at, list_refusal}
+use Rattle.constraint.specs.Constraint.{Constraint}
 use Rattle.file.specs.File.{left, given_refusal}
-use Rattle.point.specs.declared.EvalAnswer.{EvalAnswer}
-use Rattle.point.specs.declared.CheckAnswer.{CheckAnswer}
-use Rattle.point.specs.declared.ResidualAnswer.{ResidualAnswer}
 use Rattle.point.specs.declared.eval.EvalError.{EvalError}
-use Rattle.point.specs.declared.eval.Evaluated.{Evaluated}
 use Rattle.point.specs.Eval.{eval_real}
 use Rattle.point.specs.Check.{check}
 use Rattle.point.specs.Residual.{residual}
@@ -22,10 +19,6 @@ eval_refusal nodes k p =
     or_else 3 unless ltb k (length nodes / 16)
     or_else 9 unless leb (length p) 16
 
-abbrev pub eval_answered : Evaluated → EvalAnswer
-eval_answered (Evaluated.Value v) = EvalAnswer.Value v
-eval_answered (Evaluated.Failed e) = EvalAnswer.Failed e
-
 -- the numbers of the errors; a value has 0
 abbrev pub error_number : EvalError → ℕ
 error_number (EvalError.VarOutOfBounds i n) = 1
@@ -33,15 +26,18 @@ error_number EvalError.NanEncountered = 2
 error_number (EvalError.ComplexResult x) = 3
 error_number (EvalError.ExpOverflow x) = 4
 
-unfoldable pub eval_answer : Settings → List ℕ → ℕ → List Float → EvalAnswer
-eval_answer σ nodes k p = refused_or (eval_refusal nodes k p) EvalAnswer.Refused (eval_answered (eval_real σ p (tree_at nodes k)))
+unfoldable pub eval_answer : Settings → List ℕ → ℕ → List Float → Result (Result Float EvalError) ℕ
+eval_answer σ nodes k p = refused_or (eval_refusal nodes k p) Err (Ok (eval_real σ p (tree_at nodes k)))
 
 -- ---- node records and constraint records: their own refusals, then 9; else of the constraint that they leave
 unfoldable pub point_refusal : List ℕ → List ℕ → List Float → ℕ
 point_refusal nodes b p = given_refusal nodes b or_else 9 unless leb (length p) 16
 
-unfoldable pub check_answer : Settings → List ℕ → List ℕ → List Float → CheckAnswer
-check_answer σ nodes b p = refused_or (point_refusal nodes b p) CheckAnswer.Refused (CheckAnswer.Checked (check σ p (left nodes b (length b / 24))))
+abbrev pub answer_of : {A : Type 0} → (Constraint → A) → List ℕ → List ℕ → List Float → Result A ℕ
+answer_of f nodes b p = refused_or (point_refusal nodes b p) Err (Ok (f (left nodes b (length b / 24))))
 
-unfoldable pub residual_answer : Settings → List ℕ → List ℕ → List Float → ResidualAnswer
-residual_answer σ nodes b p = refused_or (point_refusal nodes b p) ResidualAnswer.Refused (ResidualAnswer.Residual (residual σ p (left nodes b (length b / 24))))
+unfoldable pub check_answer : Settings → List ℕ → List ℕ → List Float → Result Bool ℕ
+check_answer σ nodes b p = answer_of (check σ p) nodes b p
+
+unfoldable pub residual_answer : Settings → List ℕ → List ℕ → List Float → Result Float ℕ
+residual_answer σ nodes b p = answer_of (residual σ p) nodes b p

@@ -1,5 +1,5 @@
 -- Document 01, "Testing a point" (helpers.rs): the check of a point, on the constraint itself. σ are the settings.
-use Rattle.std.specs.Prelude.{Bool, true, false, not, ◌&&◌, ◌||◌, List, set, Float}
+use Rattle.std.specs.Prelude.{Bool, true, false, not, ◌&&◌, ◌||◌, List, set, Float, Result, Ok, Err}
 use Rattle.std.specs.Float.{binary64}
 use Rattle.std.specs.Float.Ieee.{neg}
 use Rattle.number.specs.Notation.{◌≺◌, ◌≼◌, whole}
@@ -8,7 +8,7 @@ use Rattle.number.specs.Halving.{mid}
 use Rattle.settings.specs.declared.Settings.{Settings}
 use Rattle.constraint.specs.declared.Relation.{Relation}
 use Rattle.constraint.specs.Constraint.{Constraint, Constraints, Atom, Not, And, Or, ForAll, Exists, end, ◌⨾◌}
-use Rattle.point.specs.declared.eval.Evaluated.{Evaluated}
+use Rattle.point.specs.declared.eval.EvalError.{EvalError}
 use Rattle.point.specs.Eval.{eval_real}
 
 -- an atom's test of its tree's value
@@ -21,9 +21,9 @@ holds σ Relation.LeZero v = v ≼ σ.slack
 holds σ Relation.NeZero v = σ.slack ≺ abs_of v
 
 -- an evaluation that fails does not pass
-abbrev pub passes : Settings → Relation → Evaluated → Bool
-passes σ rel (Evaluated.Value v) = holds σ rel v
-passes σ rel (Evaluated.Failed e) = false
+abbrev pub passes : Settings → Relation → Result Float EvalError → Bool
+passes σ rel (Ok v) = holds σ rel v
+passes σ rel (Err e) = false
 
 -- Quantifiers test lo, (lo+hi)/2, hi. `set p v x` is the point p with variable v at x; a variable beyond the point alters nothing in it.
 unfoldable mutual

@@ -1,5 +1,5 @@
 -- Document 01, "Testing a point" (eval.rs): a tree's value at a point. σ are the settings.
-use Rattle.std.specs.Prelude.{ℕ, ◌^◌, Bool, ◌&&◌, ◌||◌, List, length, get_or, ltb, Float}
+use Rattle.std.specs.Prelude.{ℕ, ◌^◌, Bool, ◌&&◌, ◌||◌, List, length, get_or, ltb, Float, Result, Ok, Err}
 use Rattle.std.specs.Float.{nan}
 use Rattle.std.specs.Float.Ieee.{neg, is_nan}
 use Rattle.number.specs.Notation.{when◌then◌else◌, ◌⊖◌, ◌≺◌, whole, decimal}
@@ -8,9 +8,8 @@ use Rattle.maths.specs.declared.Complex.{Complex}
 use Rattle.maths.specs.Cplx.{complex_exp, complex_ln}
 use Rattle.settings.specs.declared.Settings.{Settings}
 use Rattle.tree.specs.Tree.{Tree}
+use Rattle.point.specs.declared.eval.EvalError.{EvalError}
 use Rattle.point.specs.declared.eval.EvalError.TheVariants.{VarOutOfBounds, NanEncountered, ComplexResult, ExpOverflow}
-use Rattle.point.specs.declared.eval.EvaluatedComplex.{EvaluatedComplex}
-use Rattle.point.specs.declared.eval.Evaluated.{Evaluated}
 
 abbrev pub real : Float → Complex
 real x = record { re = x; im = whole 0 }
@@ -26,41 +25,37 @@ unfoldable pub beyond : Float → Float → Bool
 beyond most x = (most ≺ x) || (x ≺ neg most)
 
 -- a value, unless a part of it is a NaN
-unfoldable pub numeric : Complex → EvaluatedComplex
-numeric z = when is_nan z.re || is_nan z.im then EvaluatedComplex.Failed NanEncountered else EvaluatedComplex.Value z
+unfoldable pub numeric : Complex → Result Complex EvalError
+numeric z = when is_nan z.re || is_nan z.im then Err NanEncountered else Ok z
 
 -- exp l - ln r: exp's real argument is clamped, and where the settings are strict one beyond the clamp is an error
-unfoldable pub eml_complex : Settings → Complex → Complex → EvaluatedComplex
+unfoldable pub eml_complex : Settings → Complex → Complex → Result Complex EvalError
 eml_complex σ l r =
     when σ.strict && beyond σ.clamp l.re
-    then EvaluatedComplex.Failed (ExpOverflow l.re)
+    then Err (ExpOverflow l.re)
     else numeric (difference (complex_exp (record { re = clamped σ.clamp l.re; im = l.im })) (complex_ln r))
 
 -- variable i, which the point may lack
-unfoldable pub variable : List Float → ℕ → EvaluatedComplex
-variable p i = when ltb i (length p) then EvaluatedComplex.Value (real (get_or p i nan)) else EvaluatedComplex.Failed (VarOutOfBounds i (length p))
+unfoldable pub variable : List Float → ℕ → Result Complex EvalError
+variable p i = when ltb i (length p) then Ok (real (get_or p i nan)) else Err (VarOutOfBounds i (length p))
 
 -- the recursive meaning of a tree: left, then right, then the node, so that the first error in postorder wins
-abbrev pub and_then : EvaluatedComplex → (Complex → EvaluatedComplex) → EvaluatedComplex
-and_then (EvaluatedComplex.Value z) f = f z
-and_then (EvaluatedComplex.Failed e) f = EvaluatedComplex.Failed e
+abbrev pub and_then : {A B : Type 0} → Result A EvalError → (A → Result B EvalError) → Result B EvalError
+and_then (Ok x) f = f x
+and_then (Err e) f = Err e
 
-unfoldable pub eval_complex : Settings → List Float → Tree → EvaluatedComplex
-eval_complex σ p Tree.One = EvaluatedComplex.Value (real (whole 1))
-eval_complex σ p (Tree.Const v) = EvaluatedComplex.Value (real v)
+unfoldable pub eval_complex : Settings → List Float → Tree → Result Complex EvalError
+eval_complex σ p Tree.One = Ok (real (whole 1))
+eval_complex σ p (Tree.Const v) = Ok (real v)
 eval_complex σ p (Tree.Var i) = variable p i
 eval_complex σ p (Tree.Eml l r) = and_then (eval_complex σ p l) λ a. and_then (eval_complex σ p r) λ b. eml_complex σ a b
 
 -- at the end ComplexResult unless |im| < 1e-12
-unfoldable pub real_part : Complex → Evaluated
+unfoldable pub real_part : Complex → Result Float EvalError
 real_part z =
     when abs_of z.im ≺ decimal 1 (10 ^ 12)
-    then when is_nan z.re then Evaluated.Failed NanEncountered else Evaluated.Value z.re
-    else Evaluated.Failed (ComplexResult (abs_of z.im))
+    then when is_nan z.re then Err NanEncountered else Ok z.re
+    else Err (ComplexResult (abs_of z.im))
 
-abbrev pub evaluated : EvaluatedComplex → Evaluated
-evaluated (EvaluatedComplex.Value z) = real_part z
-evaluated (EvaluatedComplex.Failed e) = Evaluated.Failed e
-
-unfoldable pub eval_real : Settings → List Float → Tree → Evaluated
-eval_real σ p t = evaluated (eval_complex σ p t)
+unfoldable pub eval_real : Settings → List Float → Tree → Result Float EvalError
+eval_real σ p t = and_then (eval_complex σ p t) real_part

@@ -1,7 +1,8 @@
 -- What the answers never are: a value that is a NaN, and a residual that is a NaN or below zero. For every settings, point, tree and
 -- constraint. Assumes nothing.
-use Rattle.std.specs.Prelude.{◌^◌, ◌≡◌, refl, Bool, true, false, List, T, set, Float}
+use Rattle.std.specs.Prelude.{◌^◌, ◌≡◌, refl, Bool, true, false, List, T, set, Float, Result, Ok, Err}
 use Rattle.std.proofs.Common.{sym, subst, arith}
+use Rattle.std.specs.Result.{result_unwrap_or}
 use Rattle.std.specs.Float.{nan, inf, fin, binary64}
 use Rattle.std.specs.Float.Ieee.{add, neg, le, is_nan, of_int}
 use Rattle.number.specs.Notation.{when◌then◌else◌, ◌⊕◌, ◌≺◌, ◌≼◌, whole, decimal, +∞}
@@ -18,23 +19,21 @@ use Rattle.constraint.specs.declared.Relation.{Relation}
 use Rattle.constraint.specs.Constraint.{Constraint, Constraints, Atom, Not, And, Or, ForAll, Exists, end, ◌⨾◌}
 use Rattle.point.specs.declared.eval.EvalError.{EvalError}
 use Rattle.point.specs.declared.eval.EvalError.TheVariants.{NanEncountered, ComplexResult}
-use Rattle.point.specs.declared.eval.EvaluatedComplex.{EvaluatedComplex}
-use Rattle.point.specs.declared.eval.Evaluated.{Evaluated}
-use Rattle.point.specs.Eval.{eval_complex, real_part, evaluated, eval_real}
-use Rattle.point.specs.Residual.{shortfall, error_value, value_or, residual_of_not, of_three, residual, residuals}
+use Rattle.point.specs.Eval.{and_then, eval_complex, real_part, eval_real}
+use Rattle.point.specs.Residual.{shortfall, error_value, residual_of_not, of_three, residual, residuals}
 
 -- ---- eval_real never answers a NaN value
 
 -- an answer whose value, if it has one, is no NaN
-abbrev pub Numeric : Evaluated → Type 0
-Numeric (Evaluated.Value v) = T (number v)
-Numeric (Evaluated.Failed e) = Unit {0}
+abbrev pub Numeric : Result Float EvalError → Type 0
+Numeric (Ok v) = T (number v)
+Numeric (Err e) = Unit {0}
 
 real_part_numeric : (z : Complex) → Numeric (real_part z)
 unfolding real_part when◌then◌else◌
 real_part_numeric z = go (abs_of z.im ≺ decimal 1 (10 ^ 12)) (is_nan z.re) NanEncountered (ComplexResult (abs_of z.im)) refl
   where
-    go : (small n : Bool) (a b : EvalError) → is_nan z.re ≡ n → Numeric (when small then when n then Evaluated.Failed a else Evaluated.Value z.re else Evaluated.Failed b)
+    go : (small n : Bool) (a b : EvalError) → is_nan z.re ≡ n → Numeric (when small then when n then Err a else Ok z.re else Err b)
     go false n a b e = tt
     go true true a b e = tt
     go true false a b e = failed e
@@ -43,11 +42,11 @@ pub eval_numeric : (σ : Settings) (p : List Float) (t : Tree) → Numeric (eval
 unfolding eval_real
 eval_numeric σ p t = go (eval_complex σ p t)
   where
-    go : (x : EvaluatedComplex) → Numeric (evaluated x)
-    go (EvaluatedComplex.Value z) = real_part_numeric z
-    go (EvaluatedComplex.Failed e) = tt
+    go : (x : Result Complex EvalError) → Numeric (and_then x real_part)
+    go (Ok z) = real_part_numeric z
+    go (Err e) = tt
 
-pub eval_not_nan : (σ : Settings) (p : List Float) (t : Tree) (v : Float) → eval_real σ p t ≡ Evaluated.Value v → T (number v)
+pub eval_not_nan : (σ : Settings) (p : List Float) (t : Tree) (v : Float) → eval_real σ p t ≡ Ok v → T (number v)
 eval_not_nan σ p t v e = subst Numeric e (eval_numeric σ p t)
 
 -- ---- a residual is never a NaN and never below zero
@@ -138,9 +137,9 @@ error_number Relation.LtZero = unfold is_nan in tt
 error_number Relation.LeZero = unfold is_nan in tt
 error_number Relation.NeZero = zero_number
 
-value_number : (rel : Relation) (x : Evaluated) → Numeric x → T (number (value_or (error_value rel) x))
-value_number rel (Evaluated.Value v) n = n
-value_number rel (Evaluated.Failed e) n = error_number rel
+value_number : (rel : Relation) (x : Result Float EvalError) → Numeric x → T (number (result_unwrap_or x (error_value rel)))
+value_number rel (Ok v) n = n
+value_number rel (Err e) n = error_number rel
 
 size : (x : Float) → NotNegative x → NotNegative (abs_of x)
 size x h = magnitude x (le_right (whole 0) x h)
@@ -152,7 +151,7 @@ mutual
   unfolding residual residual_of_not
 
   pub residual_not_negative : (σ : Settings) (p : List Float) (c : Constraint) → NotNegative (residual σ p c)
-  residual_not_negative σ p (Atom rel t) = shortfall_not_negative rel (value_or (error_value rel) (eval_real σ p t)) (value_number rel (eval_real σ p t) (eval_numeric σ p t))
+  residual_not_negative σ p (Atom rel t) = shortfall_not_negative rel (result_unwrap_or (eval_real σ p t) (error_value rel)) (value_number rel (eval_real σ p t) (eval_numeric σ p t))
   residual_not_negative σ p (Not c) = chosen (residual σ p c ≺ decimal 1 (10 ^ 12)) (whole 1) (whole 0) (λ t. one) (λ t. zero)
   residual_not_negative σ p (And cs) = residuals_not_negative σ p ◌⊕◌ adds (whole 0) cs zero
   residual_not_negative σ p (Or cs) = residuals_not_negative σ p min_of least +∞ cs infinity

@@ -1,9 +1,10 @@
-pub mod Room
 pub mod Eval
 pub mod Machine
 pub mod Check
 pub mod Residual
-pub mod Code
+pub mod Measure
+pub mod MeasureLaws
+pub mod Room
 pub mod Answer
 pub mod Laws
 pub mod Computing

@@ -1,6 +1,6 @@
 -- The stack machine: a tree's instructions in postorder, and what running them leaves.
-use Rattle.std.specs.Prelude.{ℕ, ◌<◌, ◌≤◌, ◌+◌, ◌-◌, ◌*◌, ◌≡◌, List, [], ◌∷◌, ◌++◌, map, length, get_or, take, Float}
-use Rattle.std.specs.Float.{nan}
+use Rattle.std.specs.Prelude.{ℕ, ◌<◌, ◌≤◌, ◌+◌, ◌-◌, ◌*◌, ◌≡◌, List, [], ◌∷◌, ◌++◌, map, length, take, Float, Result, Ok, Err}
+use Rattle.std.specs.List.{All}
 use Rattle.number.specs.Notation.{whole}
 use Rattle.maths.specs.declared.Complex.{Complex}
 use Rattle.settings.specs.declared.Settings.{Settings}
@@ -9,11 +9,9 @@ use Rattle.tree.specs.Tree.{Tree, size}
 use Rattle.tree.specs.Nodes.{node_at}
 use Rattle.point.specs.declared.eval.Instruction.{Instruction}
 use Rattle.point.specs.declared.eval.Instruction.TheVariants.{PushOne, PushConst, PushVar, Eml}
-use Rattle.point.specs.declared.eval.EvaluatedComplex.{EvaluatedComplex}
-use Rattle.point.specs.declared.eval.EvaluatedComplex.TheVariants.{Value, Failed}
 use Rattle.point.specs.declared.eval.EvalError.{EvalError}
 use Rattle.point.specs.declared.eval.EvalError.TheVariants.{NanEncountered}
-use Rattle.point.specs.Eval.{real, variable, eml_complex}
+use Rattle.point.specs.Eval.{real, variable, eml_complex, and_then}
 
 abbrev pub instruction_of : Node → Instruction
 instruction_of Node.One = PushOne
@@ -30,44 +28,35 @@ postorder (Tree.Eml l r) = postorder l ++ postorder r ++ (Eml ∷ [])
 
 -- ---- running: the stack, its top first, or the error that stopped it
 
-pub data Stack : Type 0 where
-  holding : List Complex → Stack
-  stopped : EvalError → Stack
+abbrev pub Outcome : Type 0
+Outcome = Result (List Complex) EvalError
 
-abbrev pub pushed : EvaluatedComplex → List Complex → Stack
-pushed (Value z) s = holding (z ∷ s)
-pushed (Failed e) s = stopped e
+-- a value on top of a stack, or its error
+abbrev pub pushed : Result Complex EvalError → List Complex → Outcome
+pushed (Ok z) s = Ok (z ∷ s)
+pushed (Err e) s = Err e
 
-abbrev pub reduced : Settings → List Complex → Stack
-reduced σ [] = stopped NanEncountered
-reduced σ (r ∷ []) = stopped NanEncountered
+abbrev pub reduced : Settings → List Complex → Outcome
+reduced σ [] = Err NanEncountered
+reduced σ (r ∷ []) = Err NanEncountered
 reduced σ (r ∷ l ∷ s) = pushed (eml_complex σ l r) s
 
-unfoldable pub step : Settings → List Float → Instruction → List Complex → Stack
-step σ p PushOne s = holding (real (whole 1) ∷ s)
-step σ p (PushConst v) s = holding (real v ∷ s)
+unfoldable pub step : Settings → List Float → Instruction → List Complex → Outcome
+step σ p PushOne s = Ok (real (whole 1) ∷ s)
+step σ p (PushConst v) s = Ok (real v ∷ s)
 step σ p (PushVar i) s = pushed (variable p i) s
 step σ p Eml s = reduced σ s
 
-abbrev pub onwards : Stack → (List Complex → Stack) → Stack
-onwards (holding s) f = f s
-onwards (stopped e) f = stopped e
-
-unfoldable pub run : Settings → List Float → List Instruction → List Complex → Stack
-run σ p [] s = holding s
-run σ p (i ∷ is) s = onwards (step σ p i s) (λ t. run σ p is t)
+unfoldable pub run : Settings → List Float → List Instruction → List Complex → Outcome
+run σ p [] s = Ok s
+run σ p (i ∷ is) s = and_then (step σ p i s) (λ t. run σ p is t)
 
 -- the value that is left
-abbrev pub result : Stack → EvaluatedComplex
-result (holding []) = Failed NanEncountered
-result (holding (z ∷ s)) = Value z
-result (stopped e) = Failed e
+abbrev pub top : List Complex → Result Complex EvalError
+top [] = Err NanEncountered
+top (z ∷ s) = Ok z
 
--- the stack's value at a place, by its parts
-abbrev pub value_at : List Float → List Float → ℕ → Complex
-value_at re im i = record { re = get_or re i nan; im = get_or im i nan }
-
--- ---- the stack's height: from h on, the instructions find what they take, never fill more than cap places, and leave one value
+-- ---- the stack's height: from h on, the instructions find what they take, never hold more than cap values, and leave one
 abbrev pub Fit : ℕ → ℕ → Instruction → Type 0
 Fit cap h PushOne = h < cap
 Fit cap h (PushConst v) = h < cap
@@ -84,23 +73,20 @@ unfoldable pub Balanced : ℕ → ℕ → List Instruction → Type 0
 Balanced cap h [] = h ≡ 1
 Balanced cap h (i ∷ is) = Fit cap h i × Balanced cap (height h i) is
 
--- ---- a list of node numbers, as instructions
-abbrev pub instructions : List ℕ → List ℕ → ℕ → List Instruction
-instructions nodes order n = map (λ (k : ℕ). instruction_of (node_at nodes k)) (take n order)
+-- ---- node numbers, as instructions; each is to name a record
+abbrev pub instructions : List ℕ → List ℕ → List Instruction
+instructions nodes numbers = map (λ (k : ℕ). instruction_of (node_at nodes k)) numbers
 
--- its first n numbers name records
-pub record Numbers (nodes order : List ℕ) (n : ℕ) : Type 0 where
-  pub there : (j : ℕ) → j < n → 16 * get_or order j 0 + 16 ≤ length nodes
+abbrev pub Numbers : List ℕ → List ℕ → Type 0
+Numbers nodes numbers = All (λ (k : ℕ). 16 * k + 16 ≤ length nodes) numbers
 
--- what flattening t from `at` on does to the order: t's instructions follow those that stood there
-pub record Flattened (nodes before after : List ℕ) (at r : ℕ) (t : Tree) : Type 0 where
-  pub next : r ≡ at + size t
-  pub holds : instructions nodes after r ≡ instructions nodes before at ++ postorder t
-  pub numbers : Numbers nodes before at → Numbers nodes after r
+-- t's postorder, in the first n places of an order
+pub record Flattened (nodes order : List ℕ) (n : ℕ) (t : Tree) : Type 0 where
+  pub many : n ≡ size t
+  pub holds : instructions nodes (take n order) ≡ postorder t
+  pub numbers : Numbers nodes (take n order)
 
--- an order that a stack whose parts are in re and im has room for
-pub record Runs (nodes order : List ℕ) (n : ℕ) (re im : List Float) : Type 0 where
-  pub within : n ≤ length order
-  pub numbers : Numbers nodes order n
-  pub same : length im ≡ length re
-  pub balanced : Balanced (length re) 0 (instructions nodes order n)
+-- numbers that a stack of cap places can run
+pub record Runs (nodes numbers : List ℕ) (cap : ℕ) : Type 0 where
+  pub there : Numbers nodes numbers
+  pub balanced : Balanced cap 0 (instructions nodes numbers)

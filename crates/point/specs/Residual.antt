@@ -1,5 +1,6 @@
 -- Document 01, "Testing a point" (`evaluate_constraint_residual` of helpers.rs): how far a point is from meeting a constraint.
 use Rattle.std.specs.Prelude.{◌^◌, List, set, Float}
+use Rattle.std.specs.Result.{result_unwrap_or}
 use Rattle.std.specs.Float.{binary64}
 use Rattle.std.specs.Float.Ieee.{neg}
 use Rattle.number.specs.Notation.{when◌then◌else◌, ◌⊕◌, ◌≺◌, ◌≼◌, whole, decimal, +∞, -∞}
@@ -9,7 +10,6 @@ use Rattle.number.specs.Halving.{mid}
 use Rattle.settings.specs.declared.Settings.{Settings}
 use Rattle.constraint.specs.declared.Relation.{Relation}
 use Rattle.constraint.specs.Constraint.{Constraint, Constraints, Atom, Not, And, Or, ForAll, Exists, end, ◌⨾◌}
-use Rattle.point.specs.declared.eval.Evaluated.{Evaluated}
 use Rattle.point.specs.Eval.{eval_real}
 
 -- an atom's residual: NeZero's is |v|
@@ -30,10 +30,6 @@ error_value Relation.LtZero = +∞
 error_value Relation.LeZero = +∞
 error_value Relation.NeZero = whole 0
 
-abbrev pub value_or : Float → Evaluated → Float
-value_or other (Evaluated.Value v) = v
-value_or other (Evaluated.Failed e) = other
-
 -- Not's, by the residual of what it denies
 unfoldable pub residual_of_not : Float → Float
 residual_of_not r = when r ≺ decimal 1 (10 ^ 12) then whole 1 else whole 0
@@ -46,7 +42,7 @@ of_three f x a b c = f (f (f x (abs_of a)) (abs_of b)) (abs_of c)
 -- their three samples
 unfoldable mutual
   pub residual : Settings → List Float → Constraint → Float
-  residual σ p (Atom rel t) = shortfall rel (value_or (error_value rel) (eval_real σ p t))
+  residual σ p (Atom rel t) = shortfall rel (result_unwrap_or (eval_real σ p t) (error_value rel))
   residual σ p (Not c) = residual_of_not (residual σ p c)
   residual σ p (And cs) = residuals σ p ◌⊕◌ (whole 0) cs
   residual σ p (Or cs) = residuals σ p min_of +∞ cs

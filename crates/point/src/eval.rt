@@ -1,13 +1,13 @@
 // A tree's value at a point (eval.rs): the tree's postorder, then a stack of complex numbers.
-ghost use Rattle.std.specs.Prelude.{◌≡◌, [], ◌<◌, ◌≤◌, ◌+◌, length, set};
-ghost use Rattle.std.specs.Float.Ieee.{is_nan};
+ghost use Rattle.std.specs.Prelude.{◌≡◌, [], ◌<◌, ◌≤◌, ◌+◌, length};
 ghost use Rattle.tree.specs.Tree.{size};
 ghost use Rattle.tree.specs.Nodes.{Valid, tree_at};
-ghost use Rattle.point.specs.Eval.{real as real_of, clamped, beyond, eml_complex, variable as variable_of, eval_complex, real_part, eval_real};
-ghost use Rattle.point.specs.Machine.{instruction_of, instructions, value_at, Flattened, Runs, run as running, result as outcome};
+ghost use Rattle.point.specs.Eval.{real as real_of, clamped, beyond, eml_complex, variable as variable_of, and_then, eval_complex, real_part, eval_real};
+ghost use Rattle.point.specs.Machine.{instruction_of, instructions, Flattened, Runs, run as running, top};
 ghost use Rattle.tree.specs.Views.{the_tree};
-ghost use Rattle.record.specs.Views.{old, final};
+ghost use Rattle.record.specs.Views.{final};
 
+use super::stack::Stack;
 use maths::Complex;
 use settings::Settings;
 use tree::Node;
@@ -30,18 +30,6 @@ pub enum EvalError {
     ExpOverflow(f64),
 }
 
-#[derive(Clone, Copy)]
-pub enum EvaluatedComplex {
-    Value(Complex),
-    Failed(EvalError),
-}
-
-#[derive(Clone, Copy)]
-pub enum Evaluated {
-    Value(f64),
-    Failed(EvalError),
-}
-
 // What the machine does at a node, once the node's children are on the stack.
 fn instruction_of(node: Node) -> Instruction
     ensures { result ≡ instruction_of node }
@@ -54,28 +42,22 @@ fn instruction_of(node: Node) -> Instruction
     }
 }
 
-// Writes the postorder of node k's tree into order, from `at` on. Returns the place after it.
-fn flatten_postorder(nodes: &[u8], k: usize, at: usize, order: &mut [u16]) -> usize
+// Writes the postorder of node k's tree into the first places of order, and returns how many they are.
+fn flatten_postorder(nodes: &[u8], k: usize, order: &mut [u16]) -> usize
     requires valid { Valid nodes.now (k + 1) }
-    requires k_in_bounds { at + size (tree_at nodes.now k) ≤ length order.old }
-    ensures { Flattened nodes.now (old order) (final order) at result (the_tree nodes k) }
+    requires k_in_bounds { size (tree_at nodes.now k) ≤ length order.old }
+    ensures { Flattened nodes.now (final order) result (the_tree nodes k) }
 {
-    let Node::Eml(left, right) = tree::node_in(nodes, k) else {
-        order[at] = k as u16;
-        return at + 1;
-    };
-    let middle = flatten_postorder(nodes, left, at, order);
-    let end = flatten_postorder(nodes, right, middle, order);
-    order[end] = k as u16;
-    end + 1
+    let mut count = 0;
+    if let Node::Eml(left, right) = tree::node_in(nodes, k) {
+        count = flatten_postorder(nodes, left, order);
+        count += flatten_postorder(nodes, right, &mut order[count..]);
+    }
+    order[count] = k as u16;
+    count + 1
 }
 
-fn is_nan(x: f64) -> bool
-    ensures { result ≡ is_nan x }
-{
-    x != x
-}
-
+// The library's `clamp` requires its ends in order, and the settings may hold any number.
 fn clamp(most: f64, x: f64) -> f64
     ensures { result ≡ clamped most x }
 {
@@ -95,11 +77,11 @@ fn is_beyond(most: f64, x: f64) -> bool
 }
 
 // exp(left) - ln(right)
-fn eml_complex(settings: Settings, left: Complex, right: Complex) -> EvaluatedComplex
+fn eml_complex(settings: Settings, left: Complex, right: Complex) -> Result<Complex, EvalError>
     ensures { result ≡ eml_complex settings left right }
 {
     if settings.strict & is_beyond(settings.clamp, left.re) {
-        return EvaluatedComplex::Failed(EvalError::ExpOverflow(left.re));
+        return Err(EvalError::ExpOverflow(left.re));
     }
     let e = maths::complex_exp(Complex {
         re: clamp(settings.clamp, left.re),
@@ -108,14 +90,14 @@ fn eml_complex(settings: Settings, left: Complex, right: Complex) -> EvaluatedCo
     let n = maths::complex_ln(right);
     // Each part has its own test: both in one step would wait longer for the parts.
     let re = e.re - n.re;
-    if is_nan(re) {
-        return EvaluatedComplex::Failed(EvalError::NanEncountered);
+    if re.is_nan() {
+        return Err(EvalError::NanEncountered);
     }
     let im = e.im - n.im;
-    if is_nan(im) {
-        return EvaluatedComplex::Failed(EvalError::NanEncountered);
+    if im.is_nan() {
+        return Err(EvalError::NanEncountered);
     }
-    EvaluatedComplex::Value(Complex { re, im })
+    Ok(Complex { re, im })
 }
 
 fn real(x: f64) -> Complex
@@ -124,75 +106,40 @@ fn real(x: f64) -> Complex
     Complex { re: x, im: 0.0 }
 }
 
-fn variable(i: usize, point: &[f64]) -> EvaluatedComplex
+fn variable(i: usize, point: &[f64]) -> Result<Complex, EvalError>
     ensures { result ≡ variable_of point.now i }
 {
     if point.len() <= i {
-        return EvaluatedComplex::Failed(EvalError::VarOutOfBounds(i, point.len()));
+        return Err(EvalError::VarOutOfBounds(i, point.len()));
     }
-    EvaluatedComplex::Value(real(point[i]))
+    Ok(real(point[i]))
 }
 
-// The stack's value at place i.
-fn stacked(i: usize, re: &[f64], im: &[f64]) -> Complex
-    requires { (i < length re.now) × (i < length im.now) }
-    ensures { result ≡ value_at re.now im.now i }
-{
-    Complex {
-        re: re[i],
-        im: im[i],
-    }
-}
-
-// Puts z at place i of the stack.
-fn put(i: usize, z: Complex, re: &mut [f64], im: &mut [f64])
-    requires { (i < length re.old) × (i < length im.old) }
-    ensures { (final re ≡ set (old re) i z.re) × (final im ≡ set (old im) i z.im) }
-{
-    re[i] = z.re;
-    im[i] = z.im;
-}
-
-// Runs the instructions of the first n nodes of order. The stack's values have their parts in re and im.
-fn run(
+// Runs the nodes' instructions on an empty stack.
+fn run<const N: usize>(
     nodes: &[u8],
     order: &[u16],
-    n: usize,
     settings: Settings,
     point: &[f64],
-    re: &mut [f64],
-    im: &mut [f64],
-) -> EvaluatedComplex
-    requires { Runs nodes.now order.now n re.old im.old }
-    ensures { result ≡ outcome (running settings point.now (instructions nodes.now order.now n) []) }
+    stack: &mut Stack<N>,
+) -> Result<Complex, EvalError>
+    requires runs { Runs nodes.now order.now N }
+    requires empty { stack.old ≡ [] }
+    ensures { result ≡ and_then (running settings point.now (instructions nodes.now order.now) []) top }
 {
-    let mut top = 0;
-    let mut j = 0;
-    while j < n {
-        let k = order[j] as usize;
-        j += 1;
-        match instruction_of(tree::node_in(nodes, k)) {
-            Instruction::PushOne => put(top, real(1.0), re, im),
-            Instruction::PushConst(v) => put(top, real(v), re, im),
-            Instruction::PushVar(i) => {
-                let out = variable(i, point);
-                let EvaluatedComplex::Value(z) = out else {
-                    return out;
-                };
-                put(top, z, re, im);
-            }
+    for k in order {
+        match instruction_of(tree::node_in(nodes, *k as usize)) {
+            Instruction::PushOne => stack.push(real(1.0)),
+            Instruction::PushConst(v) => stack.push(real(v)),
+            Instruction::PushVar(i) => stack.push(variable(i, point)?),
             Instruction::Eml => {
-                top -= 2;
-                let out = eml_complex(settings, stacked(top, re, im), stacked(top + 1, re, im));
-                let EvaluatedComplex::Value(z) = out else {
-                    return out;
-                };
-                put(top, z, re, im);
+                let right = stack.pop();
+                let left = stack.pop();
+                stack.push(eml_complex(settings, left, right)?);
             }
         }
-        top += 1;
     }
-    EvaluatedComplex::Value(stacked(0, re, im))
+    Ok(stack.pop())
 }
 
 // The order is lent, so that it is made once for many evaluations. The stack is made for each; most trees are short, and a short one is
@@ -203,33 +150,31 @@ pub fn eval_complex(
     settings: Settings,
     point: &[f64],
     order: &mut [u16],
-) -> EvaluatedComplex
+) -> Result<Complex, EvalError>
     requires valid { Valid nodes.now (k + 1) }
     requires k_in_bounds { size (tree_at nodes.now k) ≤ length order.old }
     ensures { result ≡ eval_complex settings point.now (the_tree nodes k) }
 {
-    let n = flatten_postorder(nodes, k, 0, order);
+    let n = flatten_postorder(nodes, k, order);
     if n < 32 {
-        let mut re = [0.0; 16];
-        let mut im = [0.0; 16];
-        return run(nodes, order, n, settings, point, &mut re, &mut im);
+        let mut stack: Stack<16> = Stack::new();
+        return run(nodes, &order[..n], settings, point, &mut stack);
     }
-    let mut re = [0.0; 128];
-    let mut im = [0.0; 128];
-    run(nodes, order, n, settings, point, &mut re, &mut im)
+    let mut stack: Stack<128> = Stack::new();
+    run(nodes, &order[..n], settings, point, &mut stack)
 }
 
-fn real_part(z: Complex) -> Evaluated
+fn real_part(z: Complex) -> Result<f64, EvalError>
     ensures { result ≡ real_part z }
 {
     let im = number::abs(z.im);
     if im < 1e-12 {
-        if is_nan(z.re) {
-            return Evaluated::Failed(EvalError::NanEncountered);
+        if z.re.is_nan() {
+            return Err(EvalError::NanEncountered);
         }
-        return Evaluated::Value(z.re);
+        return Ok(z.re);
     }
-    Evaluated::Failed(EvalError::ComplexResult(im))
+    Err(EvalError::ComplexResult(im))
 }
 
 pub fn eval_real(
@@ -238,13 +183,10 @@ pub fn eval_real(
     settings: Settings,
     point: &[f64],
     order: &mut [u16],
-) -> Evaluated
+) -> Result<f64, EvalError>
     requires valid { Valid nodes.now (k + 1) }
     requires k_in_bounds { size (tree_at nodes.now k) ≤ length order.old }
     ensures { result ≡ eval_real settings point.now (the_tree nodes k) }
 {
-    match eval_complex(nodes, k, settings, point, order) {
-        EvaluatedComplex::Value(z) => real_part(z),
-        EvaluatedComplex::Failed(e) => Evaluated::Failed(e),
-    }
+    real_part(eval_complex(nodes, k, settings, point, order)?)
 }

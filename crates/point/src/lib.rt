@@ -1,240 +1,129 @@
 // Testing a point (document 01): a tree's value, the check and the residual of a constraint, on records given without a file.
 #![tactic(auto)]
 
+mod checking;
 pub mod eval; // eval.rs: a tree's value
 pub mod helpers; // helpers.rs: the check and the residual
+mod shortfalls;
+mod stack;
 
-ghost use Rattle.std.specs.Prelude.{◌≡◌, ◌+◌, ◌/◌, ◌≤◌, length};
+ghost use Rattle.std.specs.Prelude.{◌≡◌, ◌+◌, ◌≤◌, length, IfOk, OnOk};
 ghost use Rattle.settings.specs.Settings.{usual};
+ghost use Rattle.constraint.specs.Starts.{NoLarger};
+ghost use Rattle.constraint.specs.Views.{the_constraint};
 ghost use Rattle.tree.specs.Tree.{size};
 ghost use Rattle.tree.specs.Nodes.{Valid, tree_at};
-ghost use Rattle.tree.specs.Code.{Within};
-ghost use Rattle.constraint.specs.Starts.{Ready};
-ghost use Rattle.constraint.specs.Views.{the};
-ghost use Rattle.file.specs.Code.{given_starts};
-ghost use Rattle.point.specs.Eval.{eval_real};
-ghost use Rattle.point.specs.Check.{check};
-ghost use Rattle.point.specs.Residual.{residual as residual_of};
-ghost use Rattle.point.specs.Answer.{eval_refusal, eval_answer, point_refusal, check_answer, residual_answer};
 ghost use Rattle.tree.specs.Views.{the_tree};
-ghost use Rattle.record.specs.Views.{old, final};
+ghost use Rattle.point.specs.Eval.{eval_real};
+ghost use Rattle.file.specs.Code.{Holds};
+ghost use Rattle.record.specs.Refused.{refusal_of, numbered};
+ghost use Rattle.point.specs.Answer.{eval_refusal, eval_answer, point_refusal, answer_of, check_answer, residual_answer};
 
-use eval::{EvalError, Evaluated};
-use settings::Settings;
-use tree::Tested;
+use constraint::Records;
+use eval::EvalError;
+use helpers::Measure;
+use record::Refusal;
 
-// A refusal is document 01's number.
-#[derive(Clone, Copy)]
-pub enum EvalAnswer {
-    Refused(u8),
-    Value(f64),
-    Failed(EvalError),
-}
-
-#[derive(Clone, Copy)]
-pub enum CheckAnswer {
-    Refused(u8),
-    Checked(bool),
-}
-
-#[derive(Clone, Copy)]
-pub enum ResidualAnswer {
-    Refused(u8),
-    Residual(f64),
-}
-
-fn refused(refusal: u8) -> Tested
-    ensures { result.refusal ≡ refusal }
+// The tests of eval_real, and the size of the largest tree.
+fn test_node(nodes: &[u8], k: usize, point: &[f64]) -> Result<usize, Refusal>
+    ensures refusal { refusal_of result ≡ eval_refusal nodes.now k point.now }
+    ensures valid { OnOk result (Valid nodes.now (k + 1)) }
+    ensures largest { IfOk result (NoLarger nodes.now) }
 {
-    let largest = 0;
-    Tested { refusal, largest }
-}
-
-// The tests of eval_real, and where they pass a size that the node's tree is not above.
-fn eval_tested(nodes: &[u8], k: usize, point: &[f64]) -> Tested
-    ensures refusal_value { result.refusal ≡ eval_refusal nodes.now k point.now }
-    ensures k_bound { result.refusal ≡ 0 → size (the_tree nodes k) ≤ result.largest }
-{
+    if nodes.len() % 16 != 0 {
+        return Err(Refusal::Counts);
+    }
     let count = nodes.len() / 16;
-    let over = nodes.len() % 16;
-    if over != 0 {
-        return refused(2);
-    }
-    let t = tree::test_sizes(nodes, count);
-    if t.refusal != 0 {
-        return t;
-    }
+    let largest = tree::test_sizes(nodes, count)?;
     if count <= k {
-        return refused(3);
+        return Err(Refusal::Node);
     }
     if 16 < point.len() {
-        return refused(9);
+        return Err(Refusal::Boxes);
     }
-    t
+    Ok(largest)
 }
 
-// The tree is of at most that size. A short array is quicker to clear.
-fn eval_sized(
-    nodes: &[u8],
-    k: usize,
-    largest: usize,
-    settings: Settings,
-    point: &[f64],
-) -> Evaluated
-    requires { Valid nodes.now (k + 1) × (size (tree_at nodes.now k) ≤ largest) }
-    ensures { result ≡ eval_real settings point.now (the_tree nodes k) }
+// With an order of N places.
+fn eval_within<const N: usize>(nodes: &[u8], k: usize, point: &[f64]) -> Result<f64, EvalError>
+    requires valid { Valid nodes.now (k + 1) }
+    requires room { (size (tree_at nodes.now k) ≤ N) × (N ≤ 4096) }
+    ensures { result ≡ eval_real usual point.now (the_tree nodes k) }
 {
+    let mut order = [0; N];
+    eval::eval_real(nodes, k, settings::usual(), point, &mut order)
+}
+
+// The value of a node's tree at the point. A short order is quicker to clear.
+pub fn eval_real(
+    nodes: &[u8],
+    node: usize,
+    point: &[f64],
+) -> Result<Result<f64, EvalError>, Refusal>
+    ensures { numbered result ≡ eval_answer usual nodes.now node point.now }
+{
+    let largest = test_node(nodes, node, point)?;
     if largest <= 64 {
-        let mut order = [0u16; 64];
-        return eval::eval_real(nodes, k, settings, point, &mut order);
-    }
-    let mut order = [0u16; 4096];
-    eval::eval_real(nodes, k, settings, point, &mut order)
-}
-
-// The value of a node's tree at the point.
-pub fn eval_real(nodes: &[u8], node: usize, point: &[f64]) -> EvalAnswer
-    ensures { result ≡ eval_answer usual nodes.now node point.now }
-{
-    let t = eval_tested(nodes, node, point);
-    if t.refusal != 0 {
-        return EvalAnswer::Refused(t.refusal);
-    }
-    match eval_sized(nodes, node, t.largest, settings::usual(), point) {
-        Evaluated::Value(v) => EvalAnswer::Value(v),
-        Evaluated::Failed(e) => EvalAnswer::Failed(e),
+        Ok(eval_within::<64>(nodes, node, point))
+    } else {
+        Ok(eval_within::<4096>(nodes, node, point))
     }
 }
 
-// The tests of records and of a point, and where they pass a size that no tree is above.
-fn given_tested(
-    nodes: &[u8],
-    constraints: &[u8],
+// The tests of records and of a point.
+fn test_point<'a>(
+    nodes: &'a [u8],
+    constraints: &'a [u8],
     point: &[f64],
-    starts: &mut [usize; 256],
-) -> Tested
-    requires { length starts.old ≡ 256 }
-    ensures refusal_value { result.refusal ≡ point_refusal nodes.now constraints.now point.now }
-    ensures starts_value { final starts ≡ given_starts nodes.now constraints.now (old starts) }
-    ensures within { result.refusal ≡ 0 → Within nodes.now (length nodes.now / 16) result.largest }
+) -> Result<Records<'a>, Refusal>
+    ensures refusal { refusal_of result ≡ point_refusal nodes.now constraints.now point.now }
+    ensures records { IfOk result (Holds nodes.now constraints.now) }
+    ensures few { OnOk result (length point.now ≤ 16) }
 {
-    let t = file::test_sized(nodes, constraints, starts);
-    if t.refusal != 0 {
-        return t;
-    }
+    let records = file::read_given(nodes, constraints)?;
     if 16 < point.len() {
-        return refused(9);
+        return Err(Refusal::Boxes);
     }
-    t
+    Ok(records)
 }
 
-// The check, and the residual, where no tree is above that size.
-fn check_sized(
-    nodes: &[u8],
-    constraints: &[u8],
-    starts: &[usize; 256],
-    k: usize,
-    largest: usize,
-    settings: Settings,
-    point: &[f64],
-) -> bool
-    requires ready { Ready nodes.now constraints.now (k + 1) starts.now }
-    requires within { Within nodes.now (length nodes.now / 16) largest × (length point.now ≤ 16) }
-    ensures { result ≡ check settings point.now (the nodes constraints k) }
+// The measure of the constraint that the records leave, with an order of N places.
+fn measured_within<M: Measure, const N: usize>(records: &Records, point: &[f64]) -> M
+    requires few { length point.now ≤ 16 }
+    requires room { NoLarger records.now.nodes.now N × (N ≤ 4096) }
+    ensures { result ≡ M.measure usual point.now (the_constraint records.now) }
 {
-    if largest <= 64 {
-        let mut order = [0u16; 64];
-        return helpers::check_constraint(
-            nodes,
-            constraints,
-            starts,
-            k,
-            settings,
-            point,
-            &mut order,
-        );
-    }
-    let mut order = [0u16; 4096];
-    helpers::check_constraint(nodes, constraints, starts, k, settings, point, &mut order)
-}
-
-// Whether the point passes the check of the constraint.
-pub fn check_constraint(nodes: &[u8], constraints: &[u8], point: &[f64]) -> CheckAnswer
-    ensures { result ≡ check_answer usual nodes.now constraints.now point.now }
-{
-    let mut starts = [0usize; 256];
-    let t = given_tested(nodes, constraints, point, &mut starts);
-    if t.refusal != 0 {
-        return CheckAnswer::Refused(t.refusal);
-    }
-    let last = constraints.len() / 24 - 1;
-    let settings = settings::usual();
-    CheckAnswer::Checked(check_sized(
-        nodes,
-        constraints,
-        &starts,
-        last,
-        t.largest,
-        settings,
-        point,
-    ))
-}
-
-fn residual_sized(
-    nodes: &[u8],
-    constraints: &[u8],
-    starts: &[usize; 256],
-    k: usize,
-    largest: usize,
-    settings: Settings,
-    point: &[f64],
-) -> f64
-    requires ready { Ready nodes.now constraints.now (k + 1) starts.now }
-    requires within { Within nodes.now (length nodes.now / 16) largest × (length point.now ≤ 16) }
-    ensures { result ≡ residual_of settings point.now (the nodes constraints k) }
-{
-    if largest <= 64 {
-        let mut order = [0u16; 64];
-        return helpers::evaluate_constraint_residual(
-            nodes,
-            constraints,
-            starts,
-            k,
-            settings,
-            point,
-            &mut order,
-        );
-    }
-    let mut order = [0u16; 4096];
-    helpers::evaluate_constraint_residual(
-        nodes,
-        constraints,
-        starts,
-        k,
-        settings,
+    let mut order = [0; N];
+    helpers::measured(
+        records,
+        records.root(),
+        settings::usual(),
         point,
         &mut order,
     )
 }
 
-// How far the point is from meeting the constraint.
-pub fn residual(nodes: &[u8], constraints: &[u8], point: &[f64]) -> ResidualAnswer
-    ensures { result ≡ residual_answer usual nodes.now constraints.now point.now }
+fn answer<M: Measure>(nodes: &[u8], constraints: &[u8], point: &[f64]) -> Result<M, Refusal>
+    ensures { numbered result ≡ answer_of (M.measure usual point.now) nodes.now constraints.now point.now }
 {
-    let mut starts = [0usize; 256];
-    let t = given_tested(nodes, constraints, point, &mut starts);
-    if t.refusal != 0 {
-        return ResidualAnswer::Refused(t.refusal);
+    let records = test_point(nodes, constraints, point)?;
+    if records.largest <= 64 {
+        Ok(measured_within::<M, 64>(&records, point))
+    } else {
+        Ok(measured_within::<M, 4096>(&records, point))
     }
-    let last = constraints.len() / 24 - 1;
-    let settings = settings::usual();
-    ResidualAnswer::Residual(residual_sized(
-        nodes,
-        constraints,
-        &starts,
-        last,
-        t.largest,
-        settings,
-        point,
-    ))
+}
+
+// Whether the point passes the check of the constraint.
+pub fn check_constraint(nodes: &[u8], constraints: &[u8], point: &[f64]) -> Result<bool, Refusal>
+    ensures { numbered result ≡ check_answer usual nodes.now constraints.now point.now }
+{
+    answer(nodes, constraints, point)
+}
+
+// How far the point is from meeting the constraint.
+pub fn residual(nodes: &[u8], constraints: &[u8], point: &[f64]) -> Result<f64, Refusal>
+    ensures { numbered result ≡ residual_answer usual nodes.now constraints.now point.now }
+{
+    answer(nodes, constraints, point)
 }

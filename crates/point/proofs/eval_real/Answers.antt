@@ -1,24 +1,26 @@
 -- `point::eval_real` meets its contract. Assumes nothing.
-use mathlib.Core.Path.{sym, ◌∙◌}
-use Rattle.record.specs.RefusalLaws.{is_refused}
-use Rattle.point.specs.declared.EvalAnswer.{EvalAnswer}
+use mathlib.Core.Path.{refl, ap}
+use Rattle.std.specs.Prelude.{Ok, Err}
+use Rattle.std.proofs.Common.{rules}
+use Rattle.std.proofs.lemmas.Result.{err_from_is_err_and}
+use Rattle.record.specs.RefusalLaws.{refuses, is_answered}
 use Rattle.point.specs.Answer.{eval_answer}
-use Rattle.point.specs.declared.eval.Evaluated.{Evaluated}
-use Rattle.point.proofs.Answers.{eval_valid, eval_answered_lem}
+use Rattle.point.specs.Room.{accepted_fits}
 use Rattle.point.proofs.eval_real.Goals as goal
 
-pub returns-then-t-ne0 : goal.returns-then-t-ne0
+pub returns-in_err-largest : goal.returns-in_err-largest
 unfolding eval_answer
-returns-then-t-ne0 c = is_refused EvalAnswer.Refused _ c.eval_tested-t.ensures.refusal_value c.if-t-ne0.true
+returns-in_err-largest c =
+    let p = err_from_is_err_and c.from_residual.result c.from_residual.ensures.1 in
+    rw (p.1, p.2) (refuses _ c.in_err-largest.ensures.refusal _)
 
-pub eval_sized-requires : goal.eval_sized-requires
-eval_sized-requires c =
-    (eval_valid _ _ _ _ c.eval_tested-t.ensures.refusal_value c.if-t-ne0.false, c.eval_tested-t.ensures.k_bound c.if-t-ne0.false)
+pub eval_within-requires-else-largest-le64-clause-room : goal.eval_within-requires-else-largest-le64-clause-room
+eval_within-requires-else-largest-le64-clause-room c = (accepted_fits _ _ c.in_ok-largest.ensures.valid, search rules)
 
-pub returns-in-Value : goal.returns-in-Value
-returns-in-Value c =
-    eval_answered_lem _ _ _ _ c.eval_tested-t.ensures.refusal_value c.if-t-ne0.false _ _ c.usual.ensures (Evaluated.Value _) (sym c.in-Value.is ∙ c.eval_sized.ensures)
+pub returns-then-largest-le64 : goal.returns-then-largest-le64
+unfolding eval_answer
+returns-then-largest-le64 c = is_answered Err _ c.in_ok-largest.ensures.refusal refl (ap Ok c.eval_within.ensures)
 
-pub returns-in-Failed : goal.returns-in-Failed
-returns-in-Failed c =
-    eval_answered_lem _ _ _ _ c.eval_tested-t.ensures.refusal_value c.if-t-ne0.false _ _ c.usual.ensures (Evaluated.Failed _) (sym c.in-Failed.is ∙ c.eval_sized.ensures)
+pub returns-else-largest-le64 : goal.returns-else-largest-le64
+unfolding eval_answer
+returns-else-largest-le64 c = is_answered Err _ c.in_ok-largest.ensures.refusal refl (ap Ok c.eval_within-else-largest-le64.ensures)

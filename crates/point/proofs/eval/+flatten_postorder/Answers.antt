@@ -1,69 +1,75 @@
 -- `point::eval::flatten_postorder` meets its contract: the node's number falls at each call. Assumes nothing.
-use Prim.Native.Nat.{◌<◌}
+use Prim.Native.Nat.{ℕ, ◌<◌, ◌≤◌, ◌+◌}
 use mathlib.Core.Path.{sym, ◌∙◌}
-use borrow.Enum.Refused.{opened}
 use native.Mathlib.Omega.{arith}
-use lib.ListN.{length, length-set}
+use Rattle.std.proofs.Common.{rules}
+use lib.ListN.{length, length-take, length-drop}
+use Rattle.tree.specs.Tree.{size}
 use Rattle.tree.specs.Nodes.{tree_at}
-use Rattle.tree.specs.NodeLaws.{in_bytes}
-use Rattle.point.proofs.Machine.{positive}
-use Rattle.point.proofs.Flattening.{lower, sizes, leaf, node}
+use Rattle.point.proofs.Flattening.{Children, alone, lower, sizes, both, node}
 use Rattle.point.proofs.eval.+flatten_postorder.Goals as goal
+use Rattle.point.proofs.eval.+flatten_postorder.Goals.{After-flatten_postorder-count, Joined-node_in, in-Eml, in_default}
 
-pub node_in-requires : goal.node_in-requires
-node_in-requires t c = in_bytes _ _ c.requires.valid c.args.k (omega arith)
-
-pub overflow_cast-order : goal.overflow_cast-order
-overflow_cast-order t c = omega (arith, c.requires.valid.few)
-
-pub bounds-order-at : goal.bounds-order-at
-bounds-order-at t c =
-    omega (arith, positive (tree_at c.args.nodes.now c.args.k))
-
-pub returns-in_default : goal.returns-in_default
-returns-in_default t c =
-    leaf _ _ c.requires.valid _ c.node_in.ensures (opened c.in_default.in_default-own.keys2) _ _ (omega (arith, positive (tree_at c.args.nodes.now c.args.k)))
-
-pub flatten_postorder-middle-requires : goal.flatten_postorder-middle-requires
-flatten_postorder-middle-requires t c =
-    let w = lower _ _ c.requires.valid _ _ (sym c.node_in.ensures ∙ c.in-Eml.is) in
+-- the left child's places leave those for the right's and one more
+after_left : (t : ℕ) (c : After-flatten_postorder-count t) → c.flatten_postorder-count.result + size (tree_at c.args.nodes.now c.in-Eml.right) + 1 ≤ length c.flatten_postorder-count.new.order
+after_left t c =
     let z = sizes _ _ c.requires.valid _ _ (sym c.node_in.ensures ∙ c.in-Eml.is) in
-    (omega arith, (w.2, omega arith))
+    omega (arith, c.flatten_postorder-count.ensures.many, c.flatten_postorder-count.auto.order, c.requires.k_in_bounds)
 
-pub flatten_postorder-end-requires : goal.flatten_postorder-end-requires
-flatten_postorder-end-requires t c =
-    let e = (sym c.node_in.ensures ∙ c.in-Eml.is) in
+-- where the branches meet
+met : (t : ℕ) (c : Joined-node_in t) → Children c.args.nodes.now c.args.k c.match-node_in.order c.match-node_in.count
+met t c = elim c.match-node_in.branch [
+  | in-Eml w ↦
+      let e = sym c.node_in.ensures ∙ w.in-Eml.is in
+      rw (w.order-is, w.count-is) (both _ _ c.requires.valid _ _ e _ _ w.flatten_postorder-count.ensures w.flatten_postorder-count-in-Eml.ensures c.requires.k_in_bounds w.flatten_postorder-count.auto.order w.flatten_postorder-count-in-Eml.auto.order)
+  | in_default w ↦ rw (w.order-is, w.count-is) (alone _ _ c.requires.valid _ (λ i j e. w.in_default.not-Eml i j (c.node_in.ensures ∙ e)))
+]
+
+pub flatten_postorder-count-requires : goal.flatten_postorder-count-requires
+flatten_postorder-count-requires t c =
+    let e = sym c.node_in.ensures ∙ c.in-Eml.is in
     let w = lower _ _ c.requires.valid _ _ e in
     let z = sizes _ _ c.requires.valid _ _ e in
-    (omega arith, (w.3, omega (arith, c.flatten_postorder-middle.ensures.next, c.flatten_postorder-middle.auto.order)))
+    (omega arith, (w.2, omega arith))
 
-pub overflow_cast-order-2 : goal.overflow_cast-order-2
-overflow_cast-order-2 t c =
-    omega (arith, c.requires.valid.few)
+pub slice_bounds-flatten_postorder-count : goal.slice_bounds-flatten_postorder-count
+slice_bounds-flatten_postorder-count t c =
+    omega (arith, after_left t (goal.at.slice_bounds-flatten_postorder-count t c).After-flatten_postorder-count)
 
-pub offset_bounds-order-end : goal.offset_bounds-order-end
-offset_bounds-order-end t c =
-    let z = sizes _ _ c.requires.valid _ _ (sym c.node_in.ensures ∙ c.in-Eml.is) in
-    let last : c.flatten_postorder-end.result < length c.flatten_postorder-end.new.order = omega (arith, c.flatten_postorder-middle.ensures.next, c.flatten_postorder-middle.auto.order, c.flatten_postorder-end.ensures.next, c.flatten_postorder-end.auto.order, c.requires.k_in_bounds) in
-    omega (arith, last)
+pub slice_bounds-flatten_postorder-start : goal.slice_bounds-flatten_postorder-start
+slice_bounds-flatten_postorder-start t c =
+    let h : c.flatten_postorder-count.result ≤ length c.flatten_postorder-count.new.order = omega (arith, after_left t (goal.at.slice_bounds-flatten_postorder-start t c).After-flatten_postorder-count) in
+    search rules
 
-pub bounds-order-end : goal.bounds-order-end
-bounds-order-end t c = (let z = sizes _ _ c.requires.valid _ _ (sym c.node_in.ensures ∙ c.in-Eml.is) in
-    omega (arith, c.flatten_postorder-middle.ensures.next, c.flatten_postorder-middle.auto.order, c.flatten_postorder-end.ensures.next, c.flatten_postorder-end.auto.order, c.requires.k_in_bounds))
+pub offset_bounds-order-count : goal.offset_bounds-order-count
+offset_bounds-order-count t c =
+    let h : c.flatten_postorder-count.result ≤ length c.flatten_postorder-count.new.order = omega (arith, after_left t (goal.at.offset_bounds-order-count t c).After-flatten_postorder-count) in
+    search rules
 
-pub overflow_add-result-2 : goal.overflow_add-result-2
-overflow_add-result-2 t c =
-    let z = sizes _ _ c.requires.valid _ _ (sym c.node_in.ensures ∙ c.in-Eml.is) in
-    let last : c.flatten_postorder-end.result < length c.flatten_postorder-end.new.order = omega (arith, c.flatten_postorder-middle.ensures.next, c.flatten_postorder-middle.auto.order, c.flatten_postorder-end.ensures.next, c.flatten_postorder-end.auto.order, c.requires.k_in_bounds) in
-    omega (arith, last)
+pub flatten_postorder-count-requires-in-Eml : goal.flatten_postorder-count-requires-in-Eml
+flatten_postorder-count-requires-in-Eml t c =
+    let w = lower _ _ c.requires.valid _ _ (sym c.node_in.ensures ∙ c.in-Eml.is) in
+    (omega arith, (w.3, simp (length-take, length-drop) (omega (arith, after_left t (goal.at.flatten_postorder-count-requires-in-Eml t c).After-flatten_postorder-count))))
 
-pub shape_of-order : goal.shape_of-order
-shape_of-order t c =
-    simp length-set (c.flatten_postorder-end.auto.order ∙ c.flatten_postorder-middle.auto.order)
+pub overflow_add-count : goal.overflow_add-count
+overflow_add-count t c =
+    let h = after_left t (goal.at.overflow_add-count t c).After-flatten_postorder-count in
+    let g = c.flatten_postorder-count-in-Eml.ensures.many in
+    omega arith
+
+pub offset_bounds-order-count-2 : goal.offset_bounds-order-count-2
+offset_bounds-order-count-2 t c =
+    let h : c.match-node_in.count < length c.match-node_in.order = omega (arith, (met t (goal.at.offset_bounds-order-count-2 t c).Joined-node_in).many, c.match-node_in.auto.order) in search rules
+
+pub bounds-order-count : goal.bounds-order-count
+bounds-order-count t c =
+    omega (arith, (met t (goal.at.bounds-order-count t c).Joined-node_in).many, c.match-node_in.auto.order)
+
+pub overflow_add-result : goal.overflow_add-result
+overflow_add-result t c =
+    omega (arith, (met t (goal.at.overflow_add-result t c).Joined-node_in).many, c.match-node_in.auto.order)
 
 pub returns : goal.returns
 returns t c =
-    let e = sym c.node_in.ensures ∙ c.in-Eml.is in
-    let z = sizes _ _ c.requires.valid _ _ e in
-    let last : c.flatten_postorder-end.result < length c.flatten_postorder-end.new.order = omega (arith, c.flatten_postorder-middle.ensures.next, c.flatten_postorder-middle.auto.order, c.flatten_postorder-end.ensures.next, c.flatten_postorder-end.auto.order, c.requires.k_in_bounds) in
-    node _ _ c.requires.valid _ _ e _ _ _ _ _ _ c.flatten_postorder-middle.ensures c.flatten_postorder-end.ensures last
+    let m = met t (goal.at.returns t c).Joined-node_in in
+    node _ _ c.requires.valid m (omega (arith, m.many, c.match-node_in.auto.order))

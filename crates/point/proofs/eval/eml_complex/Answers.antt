@@ -11,14 +11,14 @@ returns-then-settings-is_beyond c = simp (simp c.is_beyond.ensures at c.if-setti
 pub returns-then-is_nan : goal.returns-then-is_nan
 unfolding eml_complex numeric when◌then◌else◌
 returns-then-is_nan c =
-    simp (simp c.is_beyond.ensures at c.if-settings-is_beyond.false, sym c.clamp.ensures, sym c.complex_exp-e.ensures, sym c.complex_ln-n.ensures, sym c.is_nan.ensures ∙ c.if-is_nan.true)
+    simp (simp c.is_beyond.ensures at c.if-settings-is_beyond.false, sym c.clamp.ensures, sym c.complex_exp-e.ensures, sym c.complex_ln-n.ensures, sym c.is_nan.ensures.value ∙ c.if-is_nan.true)
 
 pub returns-then-is_nan-2 : goal.returns-then-is_nan-2
 unfolding eml_complex numeric when◌then◌else◌
 returns-then-is_nan-2 c =
-    simp (simp c.is_beyond.ensures at c.if-settings-is_beyond.false, sym c.clamp.ensures, sym c.complex_exp-e.ensures, sym c.complex_ln-n.ensures, sym c.is_nan.ensures ∙ c.if-is_nan.false, sym c.is_nan-2.ensures ∙ c.if-is_nan-2.true)
+    simp (simp c.is_beyond.ensures at c.if-settings-is_beyond.false, sym c.clamp.ensures, sym c.complex_exp-e.ensures, sym c.complex_ln-n.ensures, sym c.is_nan.ensures.value ∙ c.if-is_nan.false, sym c.is_nan-2.ensures.value ∙ c.if-is_nan-2.true)
 
 pub returns : goal.returns
 unfolding eml_complex numeric when◌then◌else◌
 returns c =
-    simp (simp c.is_beyond.ensures at c.if-settings-is_beyond.false, sym c.clamp.ensures, sym c.complex_exp-e.ensures, sym c.complex_ln-n.ensures, sym c.is_nan.ensures ∙ c.if-is_nan.false, sym c.is_nan-2.ensures ∙ c.if-is_nan-2.false)
+    simp (simp c.is_beyond.ensures at c.if-settings-is_beyond.false, sym c.clamp.ensures, sym c.complex_exp-e.ensures, sym c.complex_ln-n.ensures, sym c.is_nan.ensures.value ∙ c.if-is_nan.false, sym c.is_nan-2.ensures.value ∙ c.if-is_nan-2.false)

@@ -7,11 +7,11 @@ use Rattle.point.proofs.eval.real_part.Goals as goal
 
 pub returns-then-is_nan : goal.returns-then-is_nan
 unfolding real_part when◌then◌else◌
-returns-then-is_nan c = simp (threshold_is, sym c.abs-im.ensures, c.if-im.true, sym c.is_nan.ensures ∙ c.if-is_nan.true)
+returns-then-is_nan c = simp (threshold_is, sym c.abs-im.ensures, c.if-im.true, sym c.is_nan.ensures.value ∙ c.if-is_nan.true)
 
 pub returns-then-im : goal.returns-then-im
 unfolding real_part when◌then◌else◌
-returns-then-im c = simp (threshold_is, sym c.abs-im.ensures, c.if-im.true, sym c.is_nan.ensures ∙ c.if-is_nan.false)
+returns-then-im c = simp (threshold_is, sym c.abs-im.ensures, c.if-im.true, sym c.is_nan.ensures.value ∙ c.if-is_nan.false)
 
 pub returns : goal.returns
 unfolding real_part when◌then◌else◌

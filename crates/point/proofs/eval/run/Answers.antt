@@ -1,130 +1,82 @@
--- `point::eval::run` meets its contract: at the loop's head, running what is left on the stack's values gives what running all gives.
-use Prim.Native.Nat.{◌<◌, ◌≤◌, ◌+◌}
-use mathlib.Core.Path.{◌≡◌, refl, sym, ap, ap₂, ◌∙◌}
-use mathlib.Core.List.{◌∷◌}
+-- `point::eval::run` meets its contract: at the loop's head, running what is left on the stack gives what running all gives.
+use Prim.Native.Nat.{◌+◌}
+use mathlib.Core.Path.{◌≡◌, refl, sym, ap, ◌∙◌}
+use mathlib.Core.List.{List, ◌∷◌}
 use native.Mathlib.Omega.{arith}
-use lib.Ieee.{Float}
 use lib.ListN.{length, drop}
+use Rattle.std.proofs.Common.{rules}
 use Rattle.number.specs.Literals.{one_is}
+use Rattle.std.specs.Prelude.{Result, Ok}
+use Rattle.point.specs.declared.eval.EvalError.{EvalError}
 use Rattle.point.specs.declared.eval.Instruction.{Instruction}
-use Rattle.point.specs.declared.eval.EvaluatedComplex.{EvaluatedComplex}
-use Rattle.point.specs.Eval.{real, eml_complex}
-use Rattle.point.specs.Machine.{instructions, instruction_of}
-use Rattle.point.proofs.Loop.{next, done, fit, there, place, Stored, by, turn, stop, ended}
+use Rattle.point.specs.declared.eval.Instruction.TheVariants.{Eml}
+use Rattle.point.specs.Eval.{eml_complex}
+use Rattle.point.specs.Machine.{instructions, instruction_of, step, pushed, reduced}
+use Rattle.std.proofs.lemmas.Result.{err_from_is_err_and}
+use Rattle.maths.specs.declared.Complex.{Complex}
+use Rattle.point.proofs.Loop.{next, done, fit, turn, stop, one, last}
 use Rattle.point.proofs.eval.run.Goals as goal
-use Rattle.point.proofs.eval.run.Goals.{After-instruction_of, In-Eml, Joined-instruction_of, in-PushOne, in-PushConst, in-PushVar+in-Value, in-Eml+in-Value-out}
+use Rattle.point.proofs.eval.run.Goals.{After-instruction_of, After-pop-left, Joined-instruction_of, in-PushOne, in-PushConst, in-PushVar+in_ok-variable-in-PushVar, in-Eml+in_ok-eml_complex-in-Eml}
+use Rattle.point.proofs.eval.run.Given.{Over}
 
 -- the instruction is the first of what is left
-told : (c : After-instruction_of) (x : Instruction) → c.instruction_of.result ≡ x →
-    drop c.loop-j.j (instructions c.args.nodes.now c.args.order.now c.args.n) ≡ x ∷ drop (c.loop-j.j + 1) (instructions c.args.nodes.now c.args.order.now c.args.n)
-told c x q =
-    next _ _ _ c.requires.within c.loop-j.j c.loop-j-test.true
-    ∙ ap (λ (y : Instruction). y ∷ drop (c.loop-j.j + 1) (instructions c.args.nodes.now c.args.order.now c.args.n)) (sym (c.instruction_of.ensures ∙ ap instruction_of c.node_in.ensures) ∙ q)
+told : (g : Over) (c : After-instruction_of g) {x : Instruction} → c.instruction_of.result ≡ x →
+    drop c.loop-k.k-index (instructions c.args.nodes.now c.args.order.now) ≡ x ∷ drop (c.loop-k.k-index + 1) (instructions c.args.nodes.now c.args.order.now)
+told g c q =
+    next _ _ c.loop-k.k-index c.loop-k-test.true
+    ∙ ap (λ (y : Instruction). y ∷ drop (c.loop-k.k-index + 1) (instructions c.args.nodes.now c.args.order.now)) (sym (c.instruction_of.ensures ∙ ap instruction_of c.node_in.ensures) ∙ q)
 
--- its place is there
-room : (c : After-instruction_of) {x : Instruction} → c.instruction_of.result ≡ x →
-    (place c.loop-j.top x < length c.loop-j.re) × (place c.loop-j.top x < length c.loop-j.im)
-room c q = there c.loop-j.invariant.1 (told c _ q)
+-- what an Eml's step makes of the stack
+reduces : (g : Over) (c : After-pop-left g) → step c.args.settings c.args.point.now Eml c.loop-k.stack ≡ pushed (eml_complex c.args.settings c.pop-left.result c.pop-right.result) c.pop-left.new.self
+unfolding step
+reduces g c = ap (reduced c.args.settings) (c.pop-right.ensures ∙ ap (λ (s : List Complex). c.pop-right.result ∷ s) c.pop-left.ensures)
 
--- before an Eml the stack holds two values
-two_there : (c : In-Eml) → (2 ≤ c.loop-j.top) × (c.loop-j.top ≤ length c.loop-j.re) × (c.loop-j.top ≤ length c.loop-j.im)
-two_there c =
-    let i = c.loop-j.invariant.1 in (
-      fit i (next _ _ _ c.requires.within c.loop-j.j c.loop-j-test.true ∙ ap (λ (y : Instruction). y ∷ drop (c.loop-j.j + 1) (instructions c.args.nodes.now c.args.order.now c.args.n)) (sym (c.instruction_of.ensures ∙ ap instruction_of c.node_in.ensures) ∙ c.in-Eml.is)),
-      omega (arith, i.within, i.long_re),
-      omega (arith, i.within, i.long_im),
-    )
-
--- where the arms meet: the instruction's value is at its place
-met : (c : Joined-instruction_of) →
-    Stored c.args.settings c.args.point.now c.loop-j.re c.loop-j.im c.loop-j.top c.instruction_of.result c.match-instruction_of.re c.match-instruction_of.im c.match-instruction_of.top
-met c = elim c.match-instruction_of.branch [
-  | in-PushOne w ↦ by w.in-PushOne.is (ap EvaluatedComplex.Value (w.real.ensures ∙ ap (λ (x : Float). real x) one_is)) refl w.top-is (w.re-is ∙ w.put.ensures.0) (w.im-is ∙ w.put.ensures.1)
-  | in-PushConst w ↦ by w.in-PushConst.is (ap EvaluatedComplex.Value w.real-in-PushConst.ensures) refl w.top-is (w.re-is ∙ w.put-in-PushConst.ensures.0) (w.im-is ∙ w.put-in-PushConst.ensures.1)
-  | in-PushVar+in-Value w ↦ by w.in-PushVar.is w.variable-out.ensures w.in-Value.is w.top-is (w.re-is ∙ w.put-in-PushVar.ensures.0) (w.im-is ∙ w.put-in-PushVar.ensures.1)
-  | in-Eml+in-Value-out w ↦
-      by w.in-Eml.is (w.eml_complex-out.ensures ∙ ap₂ (eml_complex _) w.stacked.ensures w.stacked-in-Eml.ensures) w.in-Value-out.is w.top-is (w.re-is ∙ w.put-in-Eml.ensures.0) (w.im-is ∙ w.put-in-Eml.ensures.1)
+-- where the arms meet: the instruction's own step
+met : (g : Over) (c : Joined-instruction_of g) → step c.args.settings c.args.point.now c.instruction_of.result c.loop-k.stack ≡ Ok c.match-instruction_of.stack
+unfolding step
+met g c = elim c.match-instruction_of.branch [
+  | in-PushOne w ↦ simp (w.in-PushOne.is, w.stack-is, w.push.ensures, w.real.ensures, one_is)
+  | in-PushConst w ↦ simp (w.in-PushConst.is, w.stack-is, w.push-in-PushConst.ensures, w.real-in-PushConst.ensures)
+  | in-PushVar+in_ok-variable-in-PushVar w ↦ simp (w.in-PushVar.is, w.stack-is, w.push-in-PushVar.ensures, sym w.variable.ensures ∙ w.in_ok-variable-in-PushVar.was)
+  | in-Eml+in_ok-eml_complex-in-Eml w ↦ simp (w.in-Eml.is, w.stack-is, w.push-in-Eml.ensures, w.pop-right.ensures, w.pop-left.ensures, sym w.eml_complex.ensures ∙ w.in_ok-eml_complex-in-Eml.was)
 ]
 
-pub loop-j-init : goal.loop-j-init
-loop-j-init c =
-    (omega arith, record { long_re = refl; long_im = c.requires.same; within = omega arith; balanced = c.requires.balanced; same = refl })
+pub push-requires : goal.push-requires
+push-requires g c = (search rules, fit c.loop-k.invariant (told g (goal.at.push-requires g c).After-instruction_of c.in-PushOne.is))
 
-pub offset_bounds-order-j : goal.offset_bounds-order-j
-offset_bounds-order-j c = omega (arith, c.requires.within)
+pub push-requires-in-PushConst : goal.push-requires-in-PushConst
+push-requires-in-PushConst g c = (search rules, fit c.loop-k.invariant (told g (goal.at.push-requires-in-PushConst g c).After-instruction_of c.in-PushConst.is))
 
-pub bounds-order-j : goal.bounds-order-j
-bounds-order-j c = omega (arith, c.requires.within)
+pub returns-in_err-variable-in-PushVar : goal.returns-in_err-variable-in-PushVar
+unfolding step
+returns-in_err-variable-in-PushVar g c =
+    let p = err_from_is_err_and c.from_residual.result c.from_residual.ensures.1 in
+    rw (p.1, p.2) (stop c.loop-k.invariant (told g (goal.at.returns-in_err-variable-in-PushVar g c).After-instruction_of c.in-PushVar.is) (ap (λ (o : Result Complex EvalError). pushed o c.loop-k.stack) (sym c.variable.ensures ∙ c.in_err-variable-in-PushVar.was)))
 
-pub overflow_cast-k : goal.overflow_cast-k
-overflow_cast-k c = omega (arith, c.shared_slice_known-in-loop-j-1.given c.loop-j.j)
+pub push-requires-in-PushVar : goal.push-requires-in-PushVar
+push-requires-in-PushVar g c = (search rules, fit c.loop-k.invariant (told g (goal.at.push-requires-in-PushVar g c).After-instruction_of c.in-PushVar.is))
 
-pub node_in-requires : goal.node_in-requires
-node_in-requires c = c.requires.numbers.there _ c.loop-j-test.true
+pub pop-right-requires : goal.pop-right-requires
+pop-right-requires g c = (search rules, omega (arith, fit c.loop-k.invariant (told g (goal.at.pop-right-requires g c).After-instruction_of c.in-Eml.is)))
 
-pub put-requires : goal.put-requires
-put-requires c = room (goal.at.put-requires c).After-instruction_of c.in-PushOne.is
+pub pop-left-requires : goal.pop-left-requires
+pop-left-requires g c = (search rules, omega (arith, fit c.loop-k.invariant (told g (goal.at.pop-left-requires g c).After-instruction_of c.in-Eml.is), ap length c.pop-right.ensures))
 
-pub put-requires-in-PushConst : goal.put-requires-in-PushConst
-put-requires-in-PushConst c = room (goal.at.put-requires-in-PushConst c).After-instruction_of c.in-PushConst.is
+pub returns-in_err-eml_complex-in-Eml : goal.returns-in_err-eml_complex-in-Eml
+returns-in_err-eml_complex-in-Eml g c =
+    let p = err_from_is_err_and c.from_residual-in_err-eml_complex-in-Eml.result c.from_residual-in_err-eml_complex-in-Eml.ensures.1 in
+    rw (p.1, p.2) (stop c.loop-k.invariant (told g (goal.at.returns-in_err-eml_complex-in-Eml g c).After-instruction_of c.in-Eml.is)
+    (reduces g (goal.at.returns-in_err-eml_complex-in-Eml g c).After-pop-left ∙ ap (λ (o : Result Complex EvalError). pushed o c.pop-left.new.self) (sym c.eml_complex.ensures ∙ c.in_err-eml_complex-in-Eml.was)))
 
-pub shape_of-re-in_default : goal.shape_of-re-in_default
-shape_of-re-in_default c = c.loop-j.invariant.1.long_re
+pub push-requires-in-Eml : goal.push-requires-in-Eml
+push-requires-in-Eml g c = (search rules, omega (arith, c.loop-k.invariant.within, ap length c.pop-right.ensures, ap length c.pop-left.ensures))
 
-pub shape_of-im-in_default : goal.shape_of-im-in_default
-shape_of-im-in_default c = c.loop-j.invariant.1.long_im ∙ sym c.requires.same
+pub loop-k-preserved : goal.loop-k-preserved
+loop-k-preserved g c =
+    turn c.loop-k.invariant (told g (goal.at.loop-k-preserved g c).After-instruction_of refl) (met g c)
 
-pub returns-in_default : goal.returns-in_default
-returns-in_default c =
-    stop c.loop-j.invariant.1 (told (goal.at.returns-in_default c).After-instruction_of _ c.in-PushVar.is) c.variable-out.ensures c.in_default.in_default-own.keys2
-
-pub put-requires-in-PushVar : goal.put-requires-in-PushVar
-put-requires-in-PushVar c = room (goal.at.put-requires-in-PushVar c).After-instruction_of c.in-PushVar.is
-
-pub overflow_sub-top : goal.overflow_sub-top
-overflow_sub-top c = (two_there (goal.at.overflow_sub-top c).In-Eml).0
-
-pub stacked-requires : goal.stacked-requires
-stacked-requires c = let w = two_there (goal.at.stacked-requires c).In-Eml in (omega arith, omega arith)
-
-pub overflow_add-top : goal.overflow_add-top
-overflow_add-top c = omega (arith, two_there (goal.at.overflow_add-top c).In-Eml)
-
-pub stacked-requires-in-Eml : goal.stacked-requires-in-Eml
-stacked-requires-in-Eml c = let w = two_there (goal.at.stacked-requires-in-Eml c).In-Eml in (omega arith, omega arith)
-
-pub shape_of-re-in_default-out : goal.shape_of-re-in_default-out
-shape_of-re-in_default-out c = c.loop-j.invariant.1.long_re
-
-pub shape_of-im-in_default-out : goal.shape_of-im-in_default-out
-shape_of-im-in_default-out c = c.loop-j.invariant.1.long_im ∙ sym c.requires.same
-
-pub returns-in_default-out : goal.returns-in_default-out
-returns-in_default-out c =
-    stop c.loop-j.invariant.1 (told (goal.at.returns-in_default-out c).After-instruction_of _ c.in-Eml.is) (c.eml_complex-out.ensures ∙ ap₂ (eml_complex _) c.stacked.ensures c.stacked-in-Eml.ensures) c.in_default-out.in_default-out-own.keys2
-
-pub put-requires-in-Eml : goal.put-requires-in-Eml
-put-requires-in-Eml c = room (goal.at.put-requires-in-Eml c).After-instruction_of c.in-Eml.is
-
-pub overflow_add-top-in-loop-j : goal.overflow_add-top-in-loop-j
-overflow_add-top-in-loop-j c =
-    omega (arith, (met (goal.at.overflow_add-top-in-loop-j c).Joined-instruction_of).here, (room (goal.at.overflow_add-top-in-loop-j c).After-instruction_of refl).0, c.loop-j.invariant.1.long_re, c.well_formed)
-
-pub loop-j-preserved : goal.loop-j-preserved
-loop-j-preserved c =
-    (omega arith, turn c.loop-j.invariant.1 (told (goal.at.loop-j-preserved c).After-instruction_of _ refl) (met (goal.at.loop-j-preserved c).Joined-instruction_of))
-
-pub stacked-requires-2 : goal.stacked-requires-2
-stacked-requires-2 c =
-    let w = (ended c.loop-j.invariant.1 (done _ _ _ c.requires.within _ c.loop-j-test.false c.loop-j.invariant.0)).0 in
-    (omega (arith, c.loop-j.invariant.1.long_re), omega (arith, c.loop-j.invariant.1.long_im))
-
-pub shape_of-re : goal.shape_of-re
-shape_of-re c = c.loop-j.invariant.1.long_re
-
-pub shape_of-im : goal.shape_of-im
-shape_of-im c = c.loop-j.invariant.1.long_im ∙ sym c.requires.same
+pub pop-requires : goal.pop-requires
+pop-requires g c = (search rules, omega (arith, one c.loop-k.invariant (done _ _ _ c.loop-k-test.false)))
 
 pub returns : goal.returns
-returns c =
-    ap EvaluatedComplex.Value c.stacked-2.ensures ∙ (ended c.loop-j.invariant.1 (done _ _ _ c.requires.within _ c.loop-j-test.false c.loop-j.invariant.0)).1
+returns g c = last c.loop-k.invariant (done _ _ _ c.loop-k-test.false) c.pop.ensures

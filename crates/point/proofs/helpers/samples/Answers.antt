@@ -1,8 +1,0 @@
--- `point::helpers::samples` meets its contract. Assumes nothing.
-use mathlib.Core.Path.{refl}
-use lib.Ieee.{of_bits}
-use Rattle.point.proofs.helpers.samples.Goals as goal
-
-pub returns : goal.returns
-unfolding of_bits
-returns c = refl
