@@ -1,5 +1,4 @@
 pub mod Halves
 pub mod Steps
 pub mod Answering
-pub mod Tests
 pub mod Calling

@@ -1,19 +1,22 @@
--- What the code holds and gives back: where a run stands, and an answer.
-use Rattle.std.specs.Prelude.{ℕ, zero, suc, ◌+◌, ◌<◌, ◌≤◌, ◌≡◌, Bool, true, false, List, [], length, Float}
-use Rattle.std.specs.Borrow.{Bor}
-use denote.Triple.Both.{Both}
-use Rattle.number.specs.Notation.{whole, +∞}
+-- What the code holds and gives back: what it is asked, where a run stands, and an answer.
+use Rattle.std.specs.Prelude.{◌≡◌, ℕ, zero, suc, true, false, List, Float, Result, Ok, Err}
+use Rattle.std.specs.declared.ops.ControlFlow.{ControlFlow}
+use Rattle.std.specs.declared.ops.ControlFlow.TheVariants.{Break, Continue}
+use Rattle.number.specs.Notation.{+∞}
+use Rattle.settings.specs.Settings.{usual}
 use Rattle.settings.specs.declared.Settings.{Settings}
+use Rattle.record.specs.Refused.{number_of}
+use Rattle.record.specs.declared.refusal.Refusal.{Refusal}
 use Rattle.interval.specs.declared.Interval.{Interval}
-use Rattle.interval.specs.declared.Boxes.{Boxes}
-use Rattle.interval.specs.Boxes.{boxes_of, midpoints, padded}
-use Rattle.tree.specs.Tree.{size}
-use Rattle.tree.specs.Nodes.{Valid, tree_at}
+use Rattle.interval.specs.declared.domain.Domain.{Domain}
+use Rattle.interval.specs.declared.point.Point.{Point}
+use Rattle.interval.specs.Boxes.{midpoints}
+use Rattle.interval.specs.Views.{intervals_of, values_of}
 use Rattle.constraint.specs.Constraint.{Constraint}
-use Rattle.constraint.specs.Views.{the}
+use Rattle.constraint.specs.Views.{the_constraint}
+use Rattle.narrow.specs.Narrowing.{Narrowed, is_conflict, propagate}
 use Rattle.nra.specs.declared.halving.Task.{Task}
-use Rattle.nra.specs.declared.run.Step.{Step}
-use Rattle.nra.specs.declared.run.Run.{Run}
+use Rattle.nra.specs.declared.run.State as Held
 use Rattle.nra.specs.declared.answer.Stop as Word
 use Rattle.nra.specs.declared.answer.Solved.{Solved}
 use Rattle.nra.specs.Solver.{Problem, Stop, conflict, tolerance, limit, unsatisfied, Answer, assignment, failed, State, Progress, Stopped, Going, begin_in, run, untried}
@@ -21,77 +24,64 @@ use Rattle.nra.specs.Solver.{Problem, Stop, conflict, tolerance, limit, unsatisf
 abbrev pub problem : Constraint → Float → Problem
 problem c ε = record { constraint = c; tolerance = ε }
 
--- what a task asks of lent records
-abbrev pub asked : {X Y : Type 0} → Both (Bor (List ℕ)) X → Both (Bor (List ℕ)) Y → Task → Problem
-asked nodes constraints task = problem (the nodes constraints task.root) task.tolerance
+-- what a task asks
+abbrev pub asked : Task → Problem
+asked t = problem (the_constraint t.records) t.tolerance
 
--- ---- where a run stands
-abbrev pub standing : Step → List Interval → ℕ → Progress
-standing Step.Going b h = Going (record { boxes = b; halvings = h })
-standing (Step.Passed exact) b h = Stopped (assignment (midpoints b) exact h)
-standing Step.Conflict b h = Stopped (failed conflict +∞ h)
-standing (Step.Tolerance r) b h = Stopped (failed tolerance r h)
-
-unfoldable pub progress_of : Run → Progress
-progress_of r = standing r.step (boxes_of r.boxes) r.halvings
-
-abbrev pub goes : Step → Bool
-goes Step.Going = true
-goes (Step.Passed exact) = false
-goes Step.Conflict = false
-goes (Step.Tolerance r) = false
-
--- its boxes and halvings, from which it goes on
-abbrev pub state_of : Run → State
-state_of r = record { boxes = boxes_of r.boxes; halvings = r.halvings }
-
--- n boxes and h halvings, standing at g
-pub record At (r : Run) (n h : ℕ) (g : Progress) : Type 0 where
-  pub many : r.boxes.count ≡ n
-  pub counted : r.halvings ≡ h
-  pub stands : progress_of r ≡ g
-
--- no tree of accepted nodes has a size above n
-abbrev pub NoLarger : List ℕ → ℕ → Type 0
-NoLarger nodes n = (i : ℕ) → Valid nodes (i + 1) → size (tree_at nodes i) ≤ n
-
--- what the steps work on: 1 to 16 boxes, and room for the postorder of every tree that the nodes have
-pub record Working (nodes : List ℕ) (b : Boxes) (order : List ℕ) : Type 0 where
-  pub some : 0 < b.count
-  pub few : b.count ≤ 16
-  pub long : NoLarger nodes (length order)
+-- it asks of c under that limit and tolerance, with the usual settings
+pub record Asks (c : Constraint) (most : ℕ) (ε : Float) (t : Task) : Type 0 where
+  pub constraint_is : the_constraint t.records ≡ c
+  pub settings_are : t.settings ≡ usual
+  pub limit_is : t.limit ≡ most
+  pub tolerance_is : t.tolerance ≡ ε
 
 -- ---- an answer
+abbrev pub stop_of : Word.Stop → Stop
+stop_of Word.Stop.Conflict = conflict
+stop_of Word.Stop.Tolerance = tolerance
+stop_of Word.Stop.Limit = limit
+stop_of Word.Stop.Unsatisfied = unsatisfied
 
--- document 01's stop words "conflict", "tolerance", "limit" and "unsatisfied"; the fifth is "assignment"
-abbrev pub word_of : Stop → Word.Stop
-word_of conflict = Word.Stop.Conflict
-word_of tolerance = Word.Stop.Tolerance
-word_of limit = Word.Stop.Limit
-word_of unsatisfied = Word.Stop.Unsatisfied
+abbrev pub answer_of : Solved → Answer
+answer_of (Solved.Assignment point exact h) = assignment (values_of point) exact h
+answer_of (Solved.Failed stop r h) = failed (stop_of stop) r h
 
--- where a word goes out as a number: document 01's order
-abbrev pub stop_number : Word.Stop → ℕ
-stop_number Word.Stop.Assignment = 0
-stop_number Word.Stop.Conflict = 1
-stop_number Word.Stop.Tolerance = 2
-stop_number Word.Stop.Limit = 3
-stop_number Word.Stop.Unsatisfied = 4
+-- an answer, or the number of a refusal
+abbrev pub answered : Result Solved Refusal → Result Answer ℕ
+answered (Ok s) = Ok (answer_of s)
+answered (Err r) = Err (number_of r)
 
--- an answer without a point
-abbrev pub pointless : ℕ → Word.Stop → Float → ℕ → Solved
-pointless refusal stop residual halvings =
-    record { refusal = refusal; stop = stop; exact = false; residual = residual; halvings = halvings; count = 0; point = padded [] }
+-- where a stop word goes out as a number: document 01's order
+abbrev pub stop_number : Answer → ℕ
+stop_number (assignment m exact h) = 0
+stop_number (failed conflict r h) = 1
+stop_number (failed tolerance r h) = 2
+stop_number (failed limit r h) = 3
+stop_number (failed unsatisfied r h) = 4
 
--- refusal 0 is none; an assignment has no residual, and any other answer neither exactness nor point
-unfoldable pub solved_of : Answer → Solved
-solved_of (assignment m exact h) =
-    record { refusal = 0; stop = Word.Stop.Assignment; exact = exact; residual = whole 0; halvings = h; count = length m; point = padded m }
-solved_of (failed w r h) = pointless 0 (word_of w) r h
+-- ---- where a run stands
+abbrev pub state_of : Held.State → State
+state_of s = record { boxes = intervals_of s.boxes; halvings = s.halvings }
 
--- a refusal is its number only: the rest is the same in each
-abbrev pub refused_with : ℕ → Solved
-refused_with n = pointless n Word.Stop.Unsatisfied (whole 0) 0
+abbrev pub progress_of : ControlFlow Solved Held.State → Progress
+progress_of (Continue s) = Going (state_of s)
+progress_of (Break a) = Stopped (answer_of a)
+
+-- what narrowing answers and leaves
+abbrev pub narrowed : Task → Domain → Narrowed
+narrowed t d = propagate t.settings (the_constraint t.records) (intervals_of d)
+
+-- from the boxes d it meets no conflict, and leaves as many, with their midpoint
+pub record Narrows (t : Task) (d : Domain) (x : Domain × Point) : Type 0 where
+  pub none : is_conflict (narrowed t d).answer ≡ false
+  pub kept : x.0.count ≡ d.count
+  pub boxes : intervals_of x.0 ≡ (narrowed t d).places
+  pub middle : values_of x.1 ≡ midpoints (intervals_of x.0)
+
+-- it meets a conflict after h halvings, and a says so
+pub record Conflicts (t : Task) (d : Domain) (h : ℕ) (a : Solved) : Type 0 where
+  pub met : is_conflict (narrowed t d).answer ≡ true
+  pub answer : answer_of a ≡ failed conflict +∞ h
 
 -- an answer under a limit, where there are variables: under 0 it is never exact
 unfoldable pub tried : ℕ → Answer → Answer

@@ -1,67 +1,121 @@
--- A point has as many values as it is said to have: `count` is at most its 16 places. Assumes nothing.
-use Rattle.std.specs.Prelude.{◌≡◌, refl, ℕ, zero, suc, ◌-◌, ◌≤◌, Bool, true, false, List, length, take, replicate, Float}
-use Rattle.std.proofs.Common.{arith, length-append, length-take}
-use Rattle.number.specs.Notation.{whole}
-use Rattle.record.specs.Refusal.{refused_or}
+-- A point has no more values than its problem has variables, so no more than there is room for. Assumes nothing.
+use Rattle.std.specs.Prelude.{◌≡◌, ℕ, zero, suc, ◌≤◌, Bool, true, false, List, [], ◌∷◌, length, leb, Float, Result, Ok, Err, IfOk}
+use Rattle.std.proofs.Common.{refl, ap, ◌∙◌, arith, leb-true}
+use Rattle.record.specs.Refusal.{◌or_else◌, ◌unless◌, refused_or}
+use Rattle.record.specs.RefusalLaws.{none_both, none_unless}
 use Rattle.settings.specs.declared.Settings.{Settings}
 use Rattle.interval.specs.declared.Interval.{Interval}
-use Rattle.interval.specs.Boxes.{intervals, boxes_of, midpoints, padded}
-use Rattle.interval.specs.BoxLaws.{intervals_short, midpoints_length}
-use Rattle.interval.specs.declared.Boxes.{Boxes}
-use Rattle.constraint.specs.Constraint.{Constraint}
+use Rattle.interval.specs.Boxes.{starting, intervals}
+use Rattle.interval.specs.BoxLaws.{midpoints_length}
+use Rattle.constraint.specs.Constraint.{Constraint, num_vars}
 use Rattle.file.specs.File.{Read, Refused, Accepted, read_file, read_given}
-use Rattle.nra.specs.declared.run.Run.{Run}
-use Rattle.nra.specs.declared.run.Step.{Step}
-use Rattle.nra.specs.Solver.{Problem, Answer, assignment, failed, begin_empty, finish, untried}
-use Rattle.nra.specs.Answers.{standing, progress_of, solved_of, refused_with, tried}
-use Rattle.nra.specs.Calls.{answered_by, solve_file, solve_given}
+use Rattle.nra.specs.Solver.{Problem, Answer, assignment, failed, State, Progress, Stopped, Going, begin_checked, begin_narrowed, begin_in, begin_empty, begin_at, begin, halved, settle_checked, settle_narrowed, settle_in, halve, steps, finish, run, untried, solve}
+use Rattle.nra.specs.Answers.{problem}
+use Rattle.nra.specs.Calls.{limit_refusal, boxes_refusal, room_refusal, answered_by, solve_file, solve_given}
+use Rattle.nra.specs.Widths.{propagate_keeps, halved_keeps}
 
-fits : (a : Answer) → (solved_of a).count ≤ length (solved_of a).point
-unfolding solved_of padded
-fits (assignment m exact h) = rw (length-append m (replicate (16 - length m) (whole 0))) (omega arith)
-fits (failed w r h) = omega arith
+abbrev pub point_of : Answer → List Float
+point_of (assignment m exact h) = m
+point_of (failed w r h) = []
 
-or_fits : (r : ℕ) (a : Answer) → (refused_or r refused_with (solved_of a)).count ≤ length (refused_or r refused_with (solved_of a)).point
-or_fits zero a = fits a
-or_fits (suc r) a = omega arith
+-- ---- a run in n boxes
+module _ (σ : Settings) (p : Problem) (n : ℕ) where
+  abbrev Few : Answer → Type 0
+  Few a = length (point_of a) ≤ n
 
-answered_fits : (x : Read) (later : Constraint → ℕ) (answer : Constraint → List Interval → Answer) → (answered_by x later answer).count ≤ length (answered_by x later answer).point
-answered_fits (Refused r) later answer = omega arith
-answered_fits (Accepted c bounds) later answer = or_fits (later c) (answer c bounds)
+  abbrev Within : Progress → Type 0
+  Within (Stopped a) = Few a
+  Within (Going s) = length s.boxes ≤ n
+
+  begin_checked_few : (b : List Interval) (passes : Bool) → length b ≤ n → Within (begin_checked p b passes)
+  unfolding begin_checked
+  begin_checked_few b true l = omega (arith, midpoints_length b)
+  begin_checked_few b false l = l
+
+  begin_narrowed_few : (met : Bool) (b : List Interval) → length b ≤ n → Within (begin_narrowed σ p met b)
+  unfolding begin_narrowed
+  begin_narrowed_few true b l = omega arith
+  begin_narrowed_few false b l = begin_checked_few b _ l
+
+  begin_few : (b : List Interval) → length b ≤ n → Within (begin_in σ p b)
+  unfolding begin_in
+  begin_few b l = begin_narrowed_few _ _ (omega (arith, propagate_keeps σ p.constraint b))
+
+  settle_checked_few : (h : ℕ) (b : List Interval) (passes narrow : Bool) → length b ≤ n → Within (settle_checked σ p h b passes narrow)
+  unfolding settle_checked
+  settle_checked_few h b true narrow l = omega (arith, midpoints_length b)
+  settle_checked_few h b false true l = omega arith
+  settle_checked_few h b false false l = l
+
+  settle_narrowed_few : (h : ℕ) (met : Bool) (b : List Interval) → length b ≤ n → Within (settle_narrowed σ p h met b)
+  unfolding settle_narrowed
+  settle_narrowed_few h true b l = omega arith
+  settle_narrowed_few h false b l = settle_checked_few h b _ _ l
+
+  halve_few : (s : State) → length s.boxes ≤ n → Within (halve σ p s)
+  unfolding halve settle_in
+  halve_few s l = settle_narrowed_few _ _ _ (omega (arith, propagate_keeps σ p.constraint (halved σ p.constraint s.boxes), halved_keeps σ p.constraint s.boxes))
+
+  run_few : (limit : ℕ) (g : Progress) → Within g → Few (run σ p limit g)
+  unfolding run steps finish
+  run_few zero (Stopped a) w = w
+  run_few zero (Going s) w = omega arith
+  run_few (suc k) (Stopped a) w = w
+  run_few (suc k) (Going s) w = run_few k (halve σ p s) (halve_few s w)
+
+  untried_few : (v : ℕ) (a : Answer) → Few a → Few (untried v a)
+  unfolding untried
+  untried_few zero a f = f
+  untried_few (suc v) (assignment m exact h) f = f
+  untried_few (suc v) (failed w r h) f = f
+
+-- ---- the whole
+starting_length : (n : ℕ) (bounds : List Interval) → length (starting n bounds) ≡ n
+unfolding starting
+starting_length zero bounds = refl
+starting_length (suc n) [] = ap suc (starting_length n [])
+starting_length (suc n) (b ∷ bounds) = ap suc (starting_length n bounds)
+
+module _ (σ : Settings) (p : Problem) (bounds : List Interval) where
+  begin_empty_few : (passes : Bool) → Within σ p 0 (Stopped (begin_empty passes))
+  unfolding begin_empty
+  begin_empty_few true = omega arith
+  begin_empty_few false = omega arith
+
+  begin_at_few : (v : ℕ) → Within σ p v (begin_at σ p bounds v)
+  unfolding begin_at
+  begin_at_few zero = begin_empty_few _
+  begin_at_few (suc v) = begin_few σ p (suc v) _ (omega (arith, starting_length (suc v) bounds))
+
+  pub solve_few : (limit : ℕ) → length (point_of (solve σ p bounds limit)) ≤ num_vars p.constraint
+  unfolding solve begin
+  solve_few zero = untried_few σ p _ _ _ (run_few σ p _ 0 _ (begin_at_few _))
+  solve_few (suc limit) = run_few σ p _ (suc limit) _ (begin_at_few _)
+
+-- ---- the calls
+abbrev Fits : ℕ → Result Answer ℕ → Type 0
+Fits room x = IfOk x (λ a. length (point_of a) ≤ room)
+
+room_enough : (c : Constraint) (room : ℕ) → room_refusal c room ≡ 0 → num_vars c ≤ room
+unfolding room_refusal
+room_enough c room e = leb-true _ _ (none_unless 9 _ e)
+
+module _ (room : ℕ) (answer : Constraint → List Interval → Answer) (few : (c : Constraint) (bs : List Interval) → length (point_of (answer c bs)) ≤ num_vars c) where
+  or_fits : (c : Constraint) (bs : List Interval) (r : ℕ) → (r ≡ 0 → num_vars c ≤ room) → Fits room (refused_or r Err (Ok (answer c bs)))
+  or_fits c bs zero h = omega (arith, few c bs, h refl)
+  or_fits c bs (suc r) h = tt
+
+  answered_fits : (x : Read) (later : Constraint → ℕ) → ((c : Constraint) → later c ≡ 0 → num_vars c ≤ room) → Fits room (answered_by x later answer)
+  answered_fits (Refused r) later h = tt
+  answered_fits (Accepted c bs) later h = or_fits c bs (later c) (h c)
 
 module _ (σ : Settings) (limit : ℕ) (ε : Float) (room : ℕ) where
-  pub file_fits : (file : List ℕ) → (solve_file σ file limit ε room).count ≤ length (solve_file σ file limit ε room).point
+  pub file_fits : (file : List ℕ) → Fits room (solve_file σ file limit ε room)
   unfolding solve_file
-  file_fits file = answered_fits (read_file file) _ _
+  file_fits file = answered_fits room _ (λ c bs. solve_few σ (problem c ε) bs limit) (read_file file) _ (λ c e. room_enough c room (none_both (limit_refusal limit ε) _ e).1)
 
-  pub given_fits : (nodes b : List ℕ) (lo hi : List Float) → (solve_given σ nodes b lo hi limit ε room).count ≤ length (solve_given σ nodes b lo hi limit ε room).point
+  pub given_fits : (nodes b : List ℕ) (lo hi : List Float) → Fits room (solve_given σ nodes b lo hi limit ε room)
   unfolding solve_given
-  given_fits nodes b lo hi = answered_fits (read_given nodes b) _ _
-
-pub empty_few : (t : Bool) → (solved_of (begin_empty t)).count ≡ 0
-unfolding begin_empty solved_of
-empty_few true = refl
-empty_few false = refl
-
--- ---- and of a run that has ended, at most as many as it has boxes
-few_boxes : (b : Boxes) → length (midpoints (boxes_of b)) ≤ b.count
-unfolding boxes_of
-few_boxes b =
-    let n = b.count in
-    omega (arith, midpoints_length (intervals (take n b.lo) (take n b.hi)), intervals_short (take n b.lo) (take n b.hi), length-take n b.lo)
-
-tried_few : (limit : ℕ) (a : Answer) → (solved_of (tried limit a)).count ≡ (solved_of a).count
-unfolding tried untried solved_of
-tried_few zero (assignment m exact h) = refl
-tried_few zero (failed w r h) = refl
-tried_few (suc n) a = refl
-
-pub run_few : (σ : Settings) (p : Problem) (limit : ℕ) (r : Run) → (solved_of (tried limit (finish σ p (progress_of r)))).count ≤ r.boxes.count
-unfolding progress_of finish solved_of
-run_few σ p limit r = omega (arith, tried_few limit (finish σ p (progress_of r)), by r.step)
-  where
-    by : (s : Step) → (solved_of (finish σ p (standing s (boxes_of r.boxes) r.halvings))).count ≤ r.boxes.count
-    by Step.Going = omega arith
-    by (Step.Passed exact) = few_boxes r.boxes
-    by Step.Conflict = omega arith
-    by (Step.Tolerance d) = omega arith
+  given_fits nodes b lo hi =
+      answered_fits room _ (λ c bs. solve_few σ (problem c ε) (intervals lo hi) limit) (read_given nodes b) _
+      (λ c e. room_enough c room (none_both (boxes_refusal lo hi) _ (none_both (limit_refusal limit ε) _ e).1).1)

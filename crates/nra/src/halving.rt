@@ -1,113 +1,91 @@
 // One halving (document 01; nra.rs): the last widest box goes to one of its halves.
-ghost use Rattle.std.specs.Prelude.{◌≡◌, ◌+◌};
-ghost use Rattle.number.specs.Notation.{when◌then◌else◌, ◌≺◌};
-ghost use Rattle.interval.specs.Boxes.{boxes_of};
-ghost use Rattle.constraint.specs.Starts.{Ready};
-ghost use Rattle.constraint.specs.Views.{the};
-ghost use Rattle.point.specs.Check.{check};
-ghost use Rattle.point.specs.Room.{Room};
-ghost use Rattle.record.specs.Views.{old};
-ghost use Rattle.nra.specs.Answers.{Working};
-ghost use Rattle.nra.specs.Solver as Solver;
+ghost use Rattle.std.specs.Prelude.{◌≡◌, ◌<◌, ◌≤◌, length, IfOk};
+ghost use Rattle.record.specs.Refused.{refusal_of};
 
-use interval::{Boxes, Halves, Interval};
+use constraint::Records;
+use interval::{Domain, Point};
 use point::helpers::{check_constraint, evaluate_constraint_residual};
+use record::Refusal;
 use settings::Settings;
 
-// What stays the same in a run: the number of the constraint's record, the settings, the tolerance.
-#[derive(Clone, Copy)]
-pub struct Task {
-    pub root: usize,
+// What stays the same in a run: the records, of which the last one's constraint is to be met.
+#[derive(Drop)]
+pub struct Task<'a> {
+    pub records: Records<'a>,
     pub settings: Settings,
+    pub limit: usize,
     pub tolerance: f64,
+    pub ghost few: { limit ≤ 1_000_000 },
 }
 
-// Whether the point passes the check.
-pub fn passes(
-    nodes: &[u8],
-    constraints: &[u8],
-    starts: &[usize; 256],
-    task: Task,
-    point: &[f64],
-    order: &mut [u16],
-) -> bool
-    requires ready { Ready nodes.now constraints.now (task.root + 1) starts.now }
-    requires room { Room nodes.now point.now order.old }
-    ensures { result ≡ check task.settings point.now (the nodes constraints task.root) }
-{
-    let settings = task.settings;
-    check_constraint(
-        nodes,
-        constraints,
-        starts,
-        task.root,
-        settings,
-        point,
-        order,
-    )
-}
+impl<'a> Task<'a> {
+    ghost use Rattle.interval.specs.Views.{intervals_of, values_of};
+    ghost use Rattle.constraint.specs.Starts.{NoLarger};
+    ghost use Rattle.constraint.specs.Views.{the_constraint};
+    ghost use Rattle.point.specs.Check.{check};
+    ghost use Rattle.nra.specs.Answers.{Asks};
+    ghost use Rattle.nra.specs.Calls.{limit_refusal};
+    ghost use Rattle.nra.specs.Solver.{distance_at, halved};
+    ghost use Rattle.record.specs.Views.{old};
 
-// How far the point is from meeting the constraint: the residual's magnitude.
-pub fn distance(
-    nodes: &[u8],
-    constraints: &[u8],
-    starts: &[usize; 256],
-    task: Task,
-    point: &[f64],
-    order: &mut [u16],
-) -> f64
-    requires ready { Ready nodes.now constraints.now (task.root + 1) starts.now }
-    requires room { Room nodes.now point.now order.old }
-    ensures { result ≡ Solver.distance_at task.settings (the nodes constraints task.root) point.now }
-{
-    let settings = task.settings;
-    number::abs(evaluate_constraint_residual(
-        nodes,
-        constraints,
-        starts,
-        task.root,
-        settings,
-        point,
-        order,
-    ))
-}
-
-// The lower half only if its distance is strictly smaller.
-fn better(low: f64, high: f64, halves: Halves) -> Interval
-    ensures { result ≡ when low ≺ high then halves.lower else halves.upper }
-{
-    if low < high {
-        return halves.lower;
+    #[tactic(auto, unfolding(crate::specs::Calls::limit_refusal))]
+    // 8 for a limit above 1,000,000 or a NaN tolerance.
+    pub fn new(records: Records<'a>, limit: usize, tolerance: f64) -> Result<Task<'a>, Refusal>
+        ensures refusal { refusal_of result ≡ limit_refusal limit tolerance }
+        ensures task { IfOk result (Asks (the_constraint records.entry) limit tolerance) }
+    {
+        if (limit <= 1_000_000) & !tolerance.is_nan() {
+            return Ok(Task {
+                records,
+                settings: settings::usual(),
+                limit,
+                tolerance,
+            });
+        }
+        Err(Refusal::Limit)
     }
-    halves.upper
-}
 
-// The last widest box is halved: its lower half stays only if the residual there is strictly smaller.
-pub fn halved(
-    nodes: &[u8],
-    constraints: &[u8],
-    starts: &[usize; 256],
-    task: Task,
-    boxes: Boxes,
-    order: &mut [u16],
-) -> Boxes
-    requires ready { Ready nodes.now constraints.now (task.root + 1) starts.now }
-    requires working { Working nodes.now boxes order.old }
-    ensures { (result.count ≡ boxes.count) × (boxes_of result ≡ Solver.halved task.settings (the nodes constraints task.root) (boxes_of boxes)) }
-{
-    let w = boxes.widest();
-    let halves = Interval::new(boxes.lo[w], boxes.hi[w]).split();
-    let lower = halves.lower;
-    let upper = halves.upper;
-    let n = boxes.count;
-    let mut point = boxes.midpoints();
-    point[w] = lower.midpoint();
-    let low = distance(nodes, constraints, starts, task, &point[..n], order);
-    point[w] = upper.midpoint();
-    let high = distance(nodes, constraints, starts, task, &point[..n], order);
-    let kept = better(low, high, halves);
-    let mut half = boxes;
-    half.lo[w] = kept.lo;
-    half.hi[w] = kept.hi;
-    half
+    // Whether the point passes the check.
+    pub fn passes(&self, point: &Point, order: &mut [u16]) -> bool
+        requires { NoLarger self.now.records.nodes.now (length order.old) }
+        ensures { result ≡ check self.now.settings (values_of point.now) (the_constraint self.now.records) }
+    {
+        check_constraint(
+            &self.records,
+            self.records.root(),
+            self.settings,
+            point.as_slice(),
+            order,
+        )
+    }
+
+    // How far the point is from meeting the constraint: the residual's magnitude.
+    pub fn distance(&self, point: &Point, order: &mut [u16]) -> f64
+        requires { NoLarger self.now.records.nodes.now (length order.old) }
+        ensures { result ≡ distance_at self.now.settings (the_constraint self.now.records) (values_of point.now) }
+    {
+        number::abs(evaluate_constraint_residual(
+            &self.records,
+            self.records.root(),
+            self.settings,
+            point.as_slice(),
+            order,
+        ))
+    }
+
+    // The last widest box is halved: its lower half stays only if the residual there is strictly smaller.
+    pub fn halved(&self, boxes: Domain, order: &mut [u16]) -> Domain
+        requires some { 0 < boxes.count }
+        requires room { NoLarger self.now.records.nodes.now (length order.old) }
+        ensures { (result.count ≡ boxes.count) × (intervals_of result ≡ halved self.now.settings (the_constraint self.now.records) (intervals_of boxes)) }
+    {
+        let w = boxes.widest();
+        let halves = interval::box_at(boxes.as_slice(), w).split();
+        let point = boxes.midpoints().with(w, halves.lower.midpoint());
+        let low = self.distance(&point, order);
+        let point = point.with(w, halves.upper.midpoint());
+        let high = self.distance(&point, order);
+        let kept = if low < high { halves.lower } else { halves.upper };
+        boxes.with(w, kept)
+    }
 }

@@ -1,195 +1,139 @@
-// A run (document 01; nra.rs) as a value: all before the first halving, a halving with all that follows it, and many of them.
-ghost use Rattle.std.specs.Prelude.{◌≡◌, ◌+◌, ◌-◌, ◌<◌, ◌≤◌};
-ghost use Rattle.interval.specs.Boxes.{boxes_of};
-ghost use Rattle.constraint.specs.Starts.{Ready};
-ghost use Rattle.nra.specs.Answers.{asked, progress_of, goes, state_of, At, Working};
-ghost use Rattle.nra.specs.Solver as Solver;
+// A run (document 01; nra.rs): all before the first halving, a halving with all that follows it, and many of them.
+ghost use Rattle.std.specs.Prelude.{◌≡◌, ◌+◌, ◌<◌, ◌≤◌, length};
 
-use super::halving::{Task, distance, halved, passes};
-use interval::Boxes;
-use narrow::Mode;
+use super::answer::{Solved, Stop};
+use super::halving::Task;
+use interval::{Domain, Point};
+use narrow::{Mode, PropResult};
+use std::ops::ControlFlow;
+use std::ops::ControlFlow::{Break, Continue};
 
-// Where a run stands: it goes on; its point passed, exactly or not; narrowing met a conflict; the boxes are narrower than the tolerance, at
-// that distance.
+// Between two halvings: the boxes, whose midpoint did not pass the check, and the halvings so far.
 #[derive(Clone, Copy)]
-pub enum Step {
-    Going,
-    Passed(bool),
-    Conflict,
-    Tolerance(f64),
-}
-
-#[derive(Clone, Copy)]
-pub struct Run {
-    pub step: Step,
-    pub boxes: Boxes,
+pub struct State {
+    pub boxes: Domain,
     pub halvings: usize,
+    pub ghost some: { 0 < boxes.count },
 }
 
-// All before the first halving.
-pub fn begin(
-    nodes: &[u8],
-    constraints: &[u8],
-    starts: &[usize; 256],
-    task: Task,
-    boxes: Boxes,
-    order: &mut [u16],
-) -> Run
-    requires ready { Ready nodes.now constraints.now (task.root + 1) starts.now }
-    requires working { Working nodes.now boxes order.old }
-    ensures { At result boxes.count 0 (Solver.begin_in task.settings (asked nodes constraints task) (boxes_of boxes)) }
-{
-    let settings = task.settings;
-    let narrowed = narrow::narrow_boxes(
-        nodes,
-        constraints,
-        starts,
-        task.root,
-        settings,
-        Mode::Written,
-        boxes,
-    );
-    let result = narrowed.result;
-    let boxes = narrowed.boxes;
-    let halvings = 0;
-    if narrow::is_conflict(result) {
-        return Run {
-            step: Step::Conflict,
-            boxes,
-            halvings,
-        };
-    }
-    let n = boxes.count;
-    let point = boxes.midpoints();
-    if passes(nodes, constraints, starts, task, &point[..n], order) {
-        return Run {
-            step: Step::Passed(boxes.all_below(task.tolerance)),
-            boxes,
-            halvings,
-        };
-    }
-    Run {
-        step: Step::Going,
-        boxes,
-        halvings,
-    }
-}
+// A run goes on, or breaks off with its answer.
+impl<'a> Task<'a> {
+    ghost use Rattle.std.specs.ControlFlow.{MatchControlFlow};
+    ghost use Rattle.interval.specs.Views.{intervals_of};
+    ghost use Rattle.constraint.specs.Starts.{NoLarger};
+    ghost use Rattle.constraint.specs.Views.{the_constraint};
+    ghost use Rattle.nra.specs.Answers.{asked, answer_of, state_of, progress_of, Narrows, Conflicts, tried_in};
+    ghost use Rattle.nra.specs.Solver.{begin_in, settle_in, halve, steps};
+    ghost use Rattle.record.specs.Views.{old};
 
-// What follows a halving, up to the next.
-fn settle(
-    nodes: &[u8],
-    constraints: &[u8],
-    starts: &[usize; 256],
-    task: Task,
-    boxes: Boxes,
-    halvings: usize,
-    order: &mut [u16],
-) -> Run
-    requires ready { Ready nodes.now constraints.now (task.root + 1) starts.now }
-    requires working { Working nodes.now boxes order.old }
-    ensures { At result boxes.count halvings (Solver.settle_in task.settings (asked nodes constraints task) halvings (boxes_of boxes)) }
-{
-    let settings = task.settings;
-    let narrowed = narrow::narrow_boxes(
-        nodes,
-        constraints,
-        starts,
-        task.root,
-        settings,
-        Mode::Written,
-        boxes,
-    );
-    let result = narrowed.result;
-    let boxes = narrowed.boxes;
-    if narrow::is_conflict(result) {
-        return Run {
-            step: Step::Conflict,
-            boxes,
-            halvings,
-        };
-    }
-    let n = boxes.count;
-    let point = boxes.midpoints();
-    if passes(nodes, constraints, starts, task, &point[..n], order) {
-        return Run {
-            step: Step::Passed(false),
-            boxes,
-            halvings,
-        };
-    }
-    if boxes.all_below(task.tolerance) {
-        return Run {
-            step: Step::Tolerance(distance(nodes, constraints, starts, task, &point[..n], order)),
-            boxes,
-            halvings,
-        };
-    }
-    Run {
-        step: Step::Going,
-        boxes,
-        halvings,
-    }
-}
-
-// A halving of a run that goes on, and all that follows it up to the next.
-pub fn halve(
-    nodes: &[u8],
-    constraints: &[u8],
-    starts: &[usize; 256],
-    task: Task,
-    run: Run,
-    order: &mut [u16],
-) -> Run
-    requires ready { Ready nodes.now constraints.now (task.root + 1) starts.now }
-    requires working { Working nodes.now run.boxes order.old × (run.halvings < 1_000_000) }
-    ensures { At result run.boxes.count (run.halvings + 1) (Solver.halve task.settings (asked nodes constraints task) (state_of run)) }
-{
-    let boxes = run.boxes;
-    let half = halved(nodes, constraints, starts, task, boxes, order);
-    settle(
-        nodes,
-        constraints,
-        starts,
-        task,
-        half,
-        run.halvings + 1,
-        order,
-    )
-}
-
-fn is_going(step: Step) -> bool
-    ensures { result ≡ goes step }
-{
-    match step {
-        Step::Going => true,
-        Step::Passed(_) => false,
-        Step::Conflict => false,
-        Step::Tolerance(_) => false,
-    }
-}
-
-// Halves until the run stops or has made `limit` halvings.
-pub fn run_to(
-    nodes: &[u8],
-    constraints: &[u8],
-    starts: &[usize; 256],
-    task: Task,
-    limit: usize,
-    first: Run,
-    order: &mut [u16],
-) -> Run
-    requires ready { Ready nodes.now constraints.now (task.root + 1) starts.now }
-    requires working { Working nodes.now first.boxes order.old × (limit ≤ 1_000_000) }
-    ensures count_value { result.boxes.count ≡ first.boxes.count }
-    ensures result_value { progress_of result ≡ Solver.steps task.settings (asked nodes constraints task) (limit - first.halvings) (progress_of first) }
-{
-    let mut run = first;
-    while run.halvings < limit {
-        let step = run.step;
-        if !is_going(step) {
-            return run;
+    // The narrowed boxes and their midpoint, unless narrowing meets a conflict.
+    fn narrow(&self, start: Domain, halvings: usize) -> ControlFlow<Solved, (Domain, Point)>
+        ensures { MatchControlFlow result (Narrows self.now start) (Conflicts self.now start halvings) }
+    {
+        let (result, boxes) = narrow::narrow_boxes(
+            &self.records,
+            self.records.root(),
+            self.settings,
+            Mode::Written,
+            start,
+        );
+        if result == PropResult::Conflict {
+            return Break(Solved::Failed {
+                stop: Stop::Conflict,
+                residual: f64::INFINITY,
+                halvings,
+            });
         }
-        run = halve(nodes, constraints, starts, task, run, order);
+        Continue((boxes, boxes.midpoints()))
     }
-    run
+
+    // All before the first halving.
+    fn begin(&self, start: Domain, order: &mut [u16]) -> ControlFlow<Solved, State>
+        requires some { 0 < start.count }
+        requires room { NoLarger self.now.records.nodes.now (length order.old) }
+        ensures { progress_of result ≡ begin_in self.now.settings (asked self.now) (intervals_of start) }
+    {
+        let (boxes, point) = self.narrow(start, 0)?;
+        if self.passes(&point, order) {
+            return Break(Solved::Assignment {
+                point,
+                exact: boxes.all_below(self.tolerance),
+                halvings: 0,
+            });
+        }
+        Continue(State { boxes, halvings: 0 })
+    }
+
+    // What follows a halving, up to the next.
+    fn settle(
+        &self,
+        half: Domain,
+        halvings: usize,
+        order: &mut [u16],
+    ) -> ControlFlow<Solved, State>
+        requires some { 0 < half.count }
+        requires room { NoLarger self.now.records.nodes.now (length order.old) }
+        ensures { progress_of result ≡ settle_in self.now.settings (asked self.now) halvings (intervals_of half) }
+    {
+        let (boxes, point) = self.narrow(half, halvings)?;
+        if self.passes(&point, order) {
+            return Break(Solved::Assignment {
+                point,
+                exact: false,
+                halvings,
+            });
+        }
+        if boxes.all_below(self.tolerance) {
+            return Break(Solved::Failed {
+                stop: Stop::Tolerance,
+                residual: self.distance(&point, order),
+                halvings,
+            });
+        }
+        Continue(State { boxes, halvings })
+    }
+
+    // A halving, and all that follows it up to the next.
+    fn halve(&self, state: State, order: &mut [u16]) -> ControlFlow<Solved, State>
+        requires few { state.halvings < 1_000_000 }
+        requires room { NoLarger self.now.records.nodes.now (length order.old) }
+        ensures { progress_of result ≡ halve self.now.settings (asked self.now) (state_of state) }
+    {
+        let half = self.halved(state.boxes, order);
+        self.settle(half, state.halvings + 1, order)
+    }
+
+    // Halves until the run breaks off or has made as many halvings as its limit.
+    fn steps(&self, start: Domain, order: &mut [u16]) -> ControlFlow<Solved, State>
+        requires some { 0 < start.count }
+        requires room { NoLarger self.now.records.nodes.now (length order.old) }
+        ensures { progress_of result ≡ steps self.now.settings (asked self.now) self.now.limit (begin_in self.now.settings (asked self.now) (intervals_of start)) }
+    {
+        let mut state = self.begin(start, order)?;
+        for _ in 0..self.limit {
+            state = self.halve(state, order)?;
+        }
+        Continue(state)
+    }
+
+    // From the starting boxes.
+    pub fn run(&self, start: Domain, order: &mut [u16]) -> Solved
+        requires some { 0 < start.count }
+        requires room { NoLarger self.now.records.nodes.now (length order.old) }
+        ensures { answer_of result ≡ tried_in self.now.settings (asked self.now) self.now.limit (intervals_of start) }
+    {
+        match self.steps(start, order) {
+            Break(solved) => {
+                if self.limit == 0 {
+                    return solved.untried();
+                }
+                solved
+            }
+            Continue(state) => Solved::Failed {
+                stop: Stop::Limit,
+                residual: self.distance(&state.boxes.midpoints(), order),
+                halvings: state.halvings,
+            },
+        }
+    }
 }
