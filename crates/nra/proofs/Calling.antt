@@ -1,11 +1,11 @@
 -- The ways out of the public calls, over plain values. Assumes nothing.
 use Prim.Native.Nat.{ℕ}
-use mathlib.Core.Path.{◌≡◌, refl, sym, ap, ◌∙◌}
+use mathlib.Core.Path.{◌≡◌, refl}
 use mathlib.Core.List.{List, []}
 use lib.Ieee.{Float}
-use Rattle.std.specs.Prelude.{Result, Ok, Err}
-use Rattle.record.specs.Refusal.{◌or_else◌, ◌unless◌, refused_or}
-use Rattle.record.specs.RefusalLaws.{never_none, refuses, refuses_first, or_else_none}
+use Rattle.std.specs.Prelude.{Err}
+use Rattle.record.specs.Refusal.{◌unless◌}
+use Rattle.record.specs.RefusalLaws.{never_none, refuses, refuses_first}
 use Rattle.record.specs.Refused.{number_of}
 use Rattle.record.specs.declared.refusal.Refusal.{Refusal}
 use Rattle.settings.specs.Settings.{usual}

@@ -1,7 +1,7 @@
 -- A point has no more values than its problem has variables, so no more than there is room for. Assumes nothing.
-use Rattle.std.specs.Prelude.{◌≡◌, ℕ, zero, suc, ◌≤◌, Bool, true, false, List, [], ◌∷◌, length, leb, Float, Result, Ok, Err, IfOk}
-use Rattle.std.proofs.Common.{refl, ap, ◌∙◌, arith, leb-true}
-use Rattle.record.specs.Refusal.{◌or_else◌, ◌unless◌, refused_or}
+use Rattle.std.specs.Prelude.{◌≡◌, ℕ, zero, suc, ◌≤◌, Bool, true, false, List, [], ◌∷◌, length, Float, Result, Ok, Err, IfOk}
+use Rattle.std.proofs.Common.{refl, ap, arith, leb-true}
+use Rattle.record.specs.Refusal.{refused_or}
 use Rattle.record.specs.RefusalLaws.{none_both, none_unless}
 use Rattle.settings.specs.declared.Settings.{Settings}
 use Rattle.interval.specs.declared.Interval.{Interval}

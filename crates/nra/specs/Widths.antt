@@ -1,5 +1,5 @@
 -- Narrowing and halving keep the number of boxes. Assumes nothing.
-use Rattle.std.specs.Prelude.{◌≡◌, ℕ, zero, suc, Bool, true, false, List, [], ◌∷◌, length, set, Option, Some, None, Ok, Err}
+use Rattle.std.specs.Prelude.{◌≡◌, ℕ, zero, suc, List, [], ◌∷◌, length, Option, Some, None, Ok, Err}
 use Rattle.std.proofs.Common.{refl, ap, ◌∙◌, length-set}
 use Rattle.settings.specs.declared.Settings.{Settings}
 use Rattle.interval.specs.declared.Interval.{Interval}
@@ -8,8 +8,6 @@ use Rattle.tree.specs.Tree.{Tree}
 use Rattle.constraint.specs.declared.Relation.{Relation}
 use Rattle.constraint.specs.Constraint.{Constraint, Constraints, Atom, Not, And, Or, ForAll, Exists, end, ◌⨾◌}
 use Rattle.normal.specs.NormalForm.{to_nnf}
-use Rattle.record.specs.Leaving.{◌leaving◌}
-use Rattle.narrow.specs.declared.PropResult.TheVariants.{Stable}
 use Rattle.narrow.specs.Narrowing.{Narrowed, Demand, continue, ask_both, narrow_var, backward, nudge_var, nudge_tree, aim, narrow_to, narrow_atom, adopt, adopt_survivors, round, round_all, propagate_once, again, rounds, propagate}
 use Rattle.nra.specs.Solver.{halved}
 

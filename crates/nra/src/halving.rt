@@ -85,7 +85,11 @@ impl<'a> Task<'a> {
         let low = self.distance(&point, order);
         let point = point.with(w, halves.upper.midpoint());
         let high = self.distance(&point, order);
-        let kept = if low < high { halves.lower } else { halves.upper };
+        let kept = if low < high {
+            halves.lower
+        } else {
+            halves.upper
+        };
         boxes.with(w, kept)
     }
 }

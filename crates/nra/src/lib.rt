@@ -74,12 +74,7 @@ fn solve_task(task: &Task, bounds: &Domain, room: usize) -> Result<Solved, Refus
 // ---- what the exported calls call
 
 // Solves a house file. `room` is how many places the caller has for the point.
-pub fn solve_file(
-    file: &[u8],
-    limit: usize,
-    tolerance: f64,
-    room: usize,
-) -> Result<Solved, Refusal>
+pub fn solve_file(file: &[u8], limit: usize, tolerance: f64, room: usize) -> Result<Solved, Refusal>
     ensures { answered result ≡ solve_file usual file.now limit tolerance room }
 {
     let Problem { records, bounds } = file::read(file)?;

@@ -65,12 +65,7 @@ impl<'a> Task<'a> {
     }
 
     // What follows a halving, up to the next.
-    fn settle(
-        &self,
-        half: Domain,
-        halvings: usize,
-        order: &mut [u16],
-    ) -> ControlFlow<Solved, State>
+    fn settle(&self, half: Domain, halvings: usize, order: &mut [u16]) -> ControlFlow<Solved, State>
         requires some { 0 < half.count }
         requires room { NoLarger self.now.records.nodes.now (length order.old) }
         ensures { progress_of result ≡ settle_in self.now.settings (asked self.now) halvings (intervals_of half) }

@@ -1,26 +1,21 @@
 -- A measure of a constraint, by the constraints that a record takes. Assumes nothing.
-use Prim.Native.Nat.{ℕ, ◌+◌, ◌-◌, ◌<◌, ◌≤◌}
+use Prim.Native.Nat.{ℕ, ◌-◌}
 use mathlib.Core.Path.{◌≡◌, refl, sym, ap, ap₂, ◌∙◌}
 use mathlib.Core.Bool.{Bool, true}
-use mathlib.Core.List.{List, [], ◌∷◌}
-use native.Mathlib.Omega.{arith}
-use native.Mathlib.Numerals.{add-one}
-use lib.Ieee.{Float, nan}
-use lib.ListN.{length, get_or, set, drop, drop_of_length-le}
-use lib.Seq.{drop-cons}
+use mathlib.Core.List.{List}
+use lib.Ieee.{Float}
 use Rattle.std.specs.Prelude.{Result}
-use Rattle.std.specs.List.{fold}
 use Rattle.settings.specs.declared.Settings.{Settings}
 use Rattle.constraint.specs.declared.Relation.{Relation}
 use Rattle.constraint.specs.declared.records.Records.{Records}
 use Rattle.constraint.specs.Constraint.{Constraint}
 use Rattle.constraint.specs.Records.{gather}
-use Rattle.constraint.specs.Starts.{start_at, up_to}
+use Rattle.constraint.specs.Starts.{start_at}
 use Rattle.constraint.specs.Views.{constraint_of, constraints_before, Taken}
 use Rattle.constraint.specs.RecordLaws.{none_taken, up_to_lem}
 use Rattle.point.specs.declared.eval.EvalError.{EvalError}
 use Rattle.point.specs.declared.helpers.Each.{Each}
-use Rattle.point.specs.Measure.{joined, quantified, samples_of, Measures}
+use Rattle.point.specs.Measure.{joined, Measures}
 
 module _ {A : Type 0}
     {measure : Settings → List Float → Constraint → A}

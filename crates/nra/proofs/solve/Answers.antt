@@ -1,5 +1,5 @@
 -- `nra::solve` meets its contract. Assumes nothing.
-use mathlib.Core.Path.{sym, ◌∙◌}
+use mathlib.Core.Path.{◌∙◌}
 use Rattle.std.proofs.lemmas.Result.{err_from_is_err_and}
 use Rattle.nra.proofs.Calling.{refused_given, refused_limit, refused_boxes, solved_given}
 use Rattle.nra.proofs.solve.Goals as goal

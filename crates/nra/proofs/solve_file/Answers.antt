@@ -1,5 +1,5 @@
 -- `nra::solve_file` meets its contract. Assumes nothing.
-use mathlib.Core.Path.{sym, ◌∙◌}
+use mathlib.Core.Path.{◌∙◌}
 use Rattle.std.proofs.lemmas.Result.{err_from_is_err_and}
 use Rattle.nra.proofs.Calling.{refused_file, refused_later, solved_file}
 use Rattle.nra.proofs.solve_file.Goals as goal

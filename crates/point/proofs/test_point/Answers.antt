@@ -1,5 +1,4 @@
 -- `point::test_point` meets its contract. Assumes nothing.
-use mathlib.Core.Path.{◌∙◌}
 use Rattle.std.proofs.lemmas.Result.{err_from_is_err_and}
 use Rattle.record.specs.RefusalLaws.{refuses_first}
 use Rattle.point.specs.Answer.{point_refusal}

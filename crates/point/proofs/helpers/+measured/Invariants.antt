@@ -1,10 +1,10 @@
 -- What falls at each call, and what the loop over a quantifier's samples keeps.
 use Prim.Native.Nat.{◌+◌, ◌*◌}
 use mathlib.Core.Path.{◌≡◌}
-use lib.ListN.{set, drop, length}
+use lib.ListN.{set, drop}
 use Rattle.std.specs.List.{fold}
 use Rattle.constraint.specs.Views.{constraint_of}
-use Rattle.point.specs.Measure.{quantified, samples_of}
+use Rattle.point.specs.Measure.{quantified}
 use Rattle.point.proofs.helpers.+measured.Given as goal
 
 abbrev pub decreases-measured : goal.decreases-measured
