@@ -1,2 +1,2 @@
-pub mod Sampling
-pub mod Calling
+-- Laws that several proofs cite.
+mod Ways

@@ -3,7 +3,7 @@
 use Rattle.std.proofs.Math.Path.{◌≡◌, refl, ap, subst}
 use Rattle.std.proofs.Common.{sym, ◌∙◌, leb-true, length-set}
 use Prim.Native.Nat.{ℕ, zero, suc, ◌-◌, ◌/◌, ◌≤◌}
-use Rattle.std.specs.Prelude.{Bool, ◌&&◌, leb, replicate, Float, Option, Some, None, Result, Ok, Err, IfOk}
+use Rattle.std.specs.Prelude.{Bool, ◌&&◌, cond, leb, replicate, Float, Option, Some, None, Result, Ok, Err, IfOk}
 use Rattle.std.specs.List.{find}
 use Rattle.std.proofs.Math.Bool.{true, false, not}
 use mathlib.Core.List.{List, [], ◌∷◌}

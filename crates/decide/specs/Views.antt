@@ -1,10 +1,12 @@
 -- What the code's question and its answers stand for.
-use Rattle.std.specs.Prelude.{ℕ, Bool, true, false, not, List, Float, Result, Ok, Err}
+use Rattle.std.specs.Prelude.{ℕ, ◌≡◌, Bool, true, false, not, List, [], Float, Result, Ok, Err}
 use Rattle.record.specs.Refused.{number_of}
 use Rattle.record.specs.declared.refusal.Refusal.{Refusal}
+use Rattle.settings.specs.Settings.{usual}
 use Rattle.interval.specs.declared.Interval.{Interval}
 use Rattle.interval.specs.Views.{values_of}
 use Rattle.constraint.specs.Views.{the_constraint}
+use Rattle.file.specs.File.{Accepted, read_given}
 use Rattle.point.specs.Check.{check}
 use Rattle.decide.specs.declared.Verdict.{Verdict}
 use Rattle.decide.specs.declared.question.Question.{Question}

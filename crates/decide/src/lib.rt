@@ -77,7 +77,8 @@ pub fn decide_forall(
 ) -> Result<Verdict, Refusal>
     ensures { answered result ≡ decide_forall_given usual nodes.now constraints.now var lo hi num_vars room }
 {
-    let question = asked(nodes, constraints, var, Interval::new(lo, hi), num_vars, room)?;
+    let range = Interval { lo, hi };
+    let question = asked(nodes, constraints, var, range, num_vars, room)?;
     Ok(question.forall())
 }
 
@@ -93,6 +94,7 @@ pub fn decide_exists(
 ) -> Result<Verdict, Refusal>
     ensures { answered result ≡ decide_exists_given usual nodes.now constraints.now var lo hi num_vars room }
 {
-    let question = asked(nodes, constraints, var, Interval::new(lo, hi), num_vars, room)?;
+    let range = Interval { lo, hi };
+    let question = asked(nodes, constraints, var, range, num_vars, room)?;
     Ok(question.exists())
 }

@@ -4,7 +4,7 @@ ghost use Rattle.std.specs.Prelude.{◌≡◌, ◌≤◌};
 use super::Verdict;
 use constraint::Records;
 use interval::{Domain, Interval, Point};
-use narrow::{Mode, PropResult};
+use narrow::{Mode, PropResult, narrow_boxes};
 use point::helpers::check_constraint;
 use settings::Settings;
 
@@ -86,13 +86,12 @@ impl<'a> Question<'a> {
     fn is_refuted(&self) -> bool
         ensures { result ≡ refutes self.now.settings (the_constraint self.now.records) (box_of self.now) }
     {
-        let mut boxes = self.boxes();
-        let result = narrow::narrow(
+        let (result, _) = narrow_boxes(
             &self.records,
             self.records.root(),
             self.settings,
             Mode::Negated,
-            &mut boxes.boxes[..self.count],
+            self.boxes(),
         );
         result == PropResult::Conflict
     }

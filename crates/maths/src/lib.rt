@@ -7,21 +7,13 @@ ghost use Rattle.std.specs.Int.Signed.{mag};
 ghost use Rattle.std.specs.Float.{binary64};
 ghost use Rattle.std.specs.Float.Ieee.{of_bits};
 ghost use Rattle.std.specs.Float.Ieee.Positive.{positive};
-ghost use Rattle.number.specs.Notation.{◌⊗◌, whole, integer};
+ghost use Rattle.number.specs.Notation.{◌⊗◌, whole};
 ghost use Rattle.number.specs.Near.{below};
 ghost use Rattle.maths.specs.Series.{series};
 ghost use Rattle.maths.specs.Exp.{two^, exp_sum, scaled, exp_of};
 ghost use Rattle.maths.specs.Ln.{ln_sum, ln_at, mantissa, exponent, ln_of};
 ghost use Rattle.maths.specs.Trig.{turns, rest, quarter, sin_step, cos_step, sin_at, cos_at, turn_of, sin_by, sin_of, cos_of, atan_sum, atan_at, atan_of};
 ghost use Rattle.maths.specs.Cplx.{complex_exp, log_size, signed, angle, complex_ln};
-
-// A whole number that an f64 holds exactly.
-fn float_of(n: i64) -> f64
-    requires { mag n < 2 ^ 53 }
-    ensures { result ≡ integer n }
-{
-    n as f64
-}
 
 // 2^a
 fn two_to(a: i64) -> f64
@@ -61,7 +53,7 @@ pub fn exp(x: f64) -> f64
         return 0.0;
     }
     let k = number::nearest(x * f64::from_bits(0x3FF71547652B82FE));
-    let n = float_of(k);
+    let n = k as f64;
     let r = (x - n * f64::from_bits(0x3FE62E42FEE00000)) - n * f64::from_bits(0x3DEA39EF35793C76);
     scale(exp_sum(r), k)
 }
@@ -115,7 +107,7 @@ fn ln_at(m: f64, e: i64) -> f64
     requires { mag e < 2 ^ 53 }
     ensures { result ≡ ln_at m e }
 {
-    let n = float_of(e);
+    let n = e as f64;
     let f = (m - 1.0) / (m + 1.0);
     let s = ln_sum(f * f);
     n * f64::from_bits(0x3FE62E42FEE00000)
@@ -209,7 +201,7 @@ fn rest_of(b: f64, n: i64) -> f64
     requires { mag n < 2 ^ 21 }
     ensures { result ≡ rest b n }
 {
-    let k = float_of(n);
+    let k = n as f64;
     (b - k * f64::from_bits(0x3FF921FB54400000)) - k * f64::from_bits(0x3DD0B4611A626331)
 }
 
@@ -221,7 +213,7 @@ fn quarter_of(n: i64) -> u64
     n.rem_euclid(4) as u64
 }
 
-// What sin and cos need of an angle: its quarter turn and the rest.
+// What sin and cos need of an angle: its quarter turn and the rest. The quarter is a number, since cos adds 1 to it.
 #[derive(Clone, Copy)]
 pub struct Turn {
     quarter: u64,

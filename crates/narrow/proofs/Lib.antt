@@ -4,5 +4,6 @@ mod Atoms
 mod Branches
 mod Passes
 mod Rounds
+mod Given
 pub mod Shrinking
 pub mod Promise

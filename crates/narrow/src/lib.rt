@@ -14,11 +14,15 @@ ghost use Rattle.record.specs.Views.{old, final};
 ghost use Rattle.constraint.specs.Views.{constraint_of};
 ghost use Rattle.narrow.specs.Narrowing.{propagate as propagate_of};
 ghost use Rattle.narrow.specs.Modes.{in_mode};
+ghost use Rattle.narrow.specs.Given.{propagate_given};
+ghost use Rattle.record.specs.Refused.{numbered};
+ghost use Rattle.settings.specs.Settings.{usual};
 
 pub use backward::backward_propagate;
 use constraint::Records;
 pub use forward::eval_interval;
 use interval::{Domain, Interval};
+use record::Refusal;
 pub use round::{Mode, propagate_once};
 use settings::Settings;
 
@@ -28,6 +32,21 @@ pub enum PropResult {
     Stable,
     Changed,
     Conflict,
+}
+
+// The numbers of the answers.
+impl From<PropResult> for u8 {
+    ghost use Rattle.narrow.specs.Given.{result_number};
+
+    ghost from_gives = { λ res n. n ≡ result_number res };
+
+    fn from(res: PropResult) -> u8 {
+        match res {
+            PropResult::Changed => 0,
+            PropResult::Stable => 1,
+            PropResult::Conflict => 2,
+        }
+    }
 }
 
 // Constraint k in that mode, in rounds until nothing changes or a Conflict, at most as many as the settings say.
@@ -67,4 +86,27 @@ pub fn narrow_boxes(
     let mut boxes = domain.boxes;
     let result = propagate(records, k, settings, mode, &mut boxes[..count]);
     (result, Domain { boxes, count })
+}
+
+// The tests in document 01's order, then `propagate` by the one constraint that the records leave. A refusal alters nothing.
+pub fn propagate_given(
+    nodes: &[u8],
+    constraints: &[u8],
+    lo: &mut [f64],
+    hi: &mut [f64],
+) -> Result<PropResult, Refusal>
+    ensures { (numbered result leaving (final lo, final hi)) ≡ propagate_given usual nodes.now constraints.now (old lo) (old hi) }
+{
+    let records = file::read_given(nodes, constraints)?;
+    let domain = Domain::of_sound_ends(lo, hi)?;
+    let settings = settings::usual();
+    let (result, narrowed) = narrow_boxes(
+        &records,
+        records.root(),
+        settings,
+        Mode::Written,
+        domain,
+    );
+    narrowed.write_ends(lo, hi);
+    Ok(result)
 }

@@ -3,18 +3,12 @@
 
 mod refusal;
 
-ghost use Rattle.std.specs.Prelude.{◌≡◌, ◌+◌, ◌≤◌, ◌<◌, length};
+ghost use Rattle.std.specs.Prelude.{◌≡◌, ◌+◌, ◌≤◌, length};
 ghost use Rattle.std.proofs.lemmas.List.Edits.{sets};
 ghost use Rattle.record.specs.Bytes.{u32_at, u64_at, f64_at, u32_bytes, u64_bytes};
 ghost use Rattle.record.specs.Views.{old, final};
 
 pub use refusal::Refusal;
-
-pub fn wide(x: u8) -> u32
-    ensures { (result ≡ x) × (result < 256) }
-{
-    x as u32
-}
 
 // The two widths: the library's one call each, where a trait for both would be longer.
 pub fn read_u32(b: &[u8], at: usize) -> u32

@@ -1,25 +1,18 @@
 -- `decide::decide_forall` meets its contract. Assumes nothing.
-use mathlib.Core.Path.{refl}
-use Rattle.file.specs.FileLaws.{some_given, last_given}
+use mathlib.Core.Path.{◌∙◌}
+use Rattle.std.proofs.lemmas.Result.{err_from_is_err_and}
 use Rattle.decide.specs.Deciding.{decide_forall_given}
-use Rattle.decide.proofs.Calling.{decision_accepted, decision_refused, decision_made}
+use Rattle.decide.proofs.Ways.{call_refused, call_answered, for_all_is}
 use Rattle.decide.proofs.decide_forall.Goals as goal
 
-pub returns-then-r-ne0 : goal.returns-then-r-ne0
+pub returns-in_err-question : goal.returns-in_err-question
 unfolding decide_forall_given
-returns-then-r-ne0 c =
-    decision_refused _ _ _ _ _ _ _ c.decision_refusal-r.ensures.value c.if-r-ne0.true c.refused.ensures
-
-pub overflow_sub-root : goal.overflow_sub-root
-overflow_sub-root c = some_given _ _ (decision_accepted _ _ _ _ _ _ c.decision_refusal-r.ensures.value c.if-r-ne0.false).0
-
-pub forall_accepted-requires : goal.forall_accepted-requires
-forall_accepted-requires c =
-    let e = decision_accepted _ _ _ _ _ _ c.decision_refusal-r.ensures.value c.if-r-ne0.false in
-    record { ready = last_given _ _ e.0 _ _ refl c.decision_refusal-r.ensures.starts_value; count_bound = e.1 }
+returns-in_err-question c =
+    let p = err_from_is_err_and c.from_residual.result c.from_residual.ensures.1 in
+    rw (p.1, p.2) (call_refused _ _ _ _ _ _ _ _ c.in_err-question.ensures.refusal)
 
 pub returns : goal.returns
 unfolding decide_forall_given
 returns c =
-    decision_made _ _ _ _ _ _ _ c.decision_refusal-r.ensures.value c.if-r-ne0.false
-    (rw (← c.usual.ensures) c.forall_accepted.ensures)
+    let q = c.in_ok-question.ensures in
+    call_answered _ _ _ _ _ _ _ q.refusal q.value.constraint_is (c.forall.ensures ∙ for_all_is _ _ _ _ _ _ c.in_ok-question.question q.value)

@@ -2,7 +2,6 @@
 use mathlib.Core.Path.{refl, sym, ap, ◌∙◌}
 use native.Mathlib.Numerals.{add-one}
 use native.Mathlib.Omega.{arith}
-use native.Mathlib.Nat.{le_antisymm}
 use lib.Ieee.{binary64}
 use lib.ListN.{length-set}
 use lib.Seq.{take-suc-set}
@@ -30,13 +29,4 @@ loop-i-preserved c =
       room = length-set c.loop-i.boxes _ _ ∙ v.room;
       passed = none_more _ _ v.passed (simp (sym (c.is_sound.ensures ∙ ap (λ (i : Interval). sound binary64 i.lo i.hi) c.bound_in-b.ensures) ∙ c.if-not-is_sound.false));
       read = rw (add-one c.loop-i.i) (take-suc-set c.loop-i.boxes c.loop-i.i c.bound_in-b.result (omega arith) ∙ simp (v.read, c.bound_in-b.ensures));
-    }
-
-pub returns : goal.returns
-returns c =
-    let v = c.loop-i.invariant in
-    let end = le_antisymm c.loop-i.auto.i-end c.loop-i-test.false in
-    record {
-      refusal = sym (ap (first (bound_refusal c.args.bytes.now)) (sym end) ∙ v.passed);
-      value = rw (← end) v.read;
     }

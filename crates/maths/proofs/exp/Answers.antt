@@ -9,6 +9,7 @@ use lib.Signed.{mag}
 use lib.Ieee.{binary64, is_nan, mul, neg, of_bits, of_int}
 use mir.Syntax.{w64}
 use mir.ValLaws.{to_z-of_z}
+use Rattle.std.proofs.Common.{rules}
 use Rattle.number.specs.Near.{nearest, below}
 use Rattle.number.specs.Notation.{when◌then◌else◌, whole, integer, bits}
 use Rattle.maths.specs.Exp.{exp_of, exp_at}
@@ -58,8 +59,8 @@ small c =
     let h : mag (nearest _) < 1501 + 1 = nearest_small 1501 _ (near c.before) in
     rw (k_is c, c.nearest-k.ensures) (omega arith)
 
-pub float_of-n-requires : goal.float_of-n-requires
-float_of-n-requires c = omega (arith, small (goal.at.float_of-n-requires c).After-nearest-k)
+pub int_to_float-n : goal.int_to_float-n
+int_to_float-n c = let s : mag (again c.nearest-k.result) < 2 ^ 53 = omega (arith, small (goal.at.int_to_float-n c).After-nearest-k) in search rules
 
 pub scale-requires : goal.scale-requires
 scale-requires c = omega (arith, small (goal.at.scale-requires c).After-nearest-k)
@@ -69,4 +70,4 @@ unfolding exp_of exp_at when◌then◌else◌
 returns c =
     let k = k_is (goal.at.returns c).After-nearest-k in
     simp (real (goal.at.returns c).Else-is_nan, most, least, c.if-x.false, c.if-x-2.false)
-    (cc (k, c.nearest-k.ensures, c.float_of-n.ensures, c.exp_sum.ensures, c.scale.ensures))
+    (cc (k, c.nearest-k.ensures, c.exp_sum.ensures, c.scale.ensures))

@@ -9,4 +9,4 @@ pub returns : goal.returns
 unfolding ln_at
 returns c =
     let e = to_z-of_z w64 c.args.e c.ranges.e in
-    cc (e, c.float_of-n.ensures, c.ln_sum-s.ensures, one_is, two_is)
+    cc (e, c.ln_sum-s.ensures, one_is, two_is)

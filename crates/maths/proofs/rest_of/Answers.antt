@@ -6,4 +6,4 @@ use Rattle.maths.proofs.rest_of.Goals as goal
 
 pub returns : goal.returns
 unfolding rest
-returns c = cc (to_z-of_z w64 c.args.n c.ranges.n, c.float_of-k.ensures)
+returns c = cc (to_z-of_z w64 c.args.n c.ranges.n)

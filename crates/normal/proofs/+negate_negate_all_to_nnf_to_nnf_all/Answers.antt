@@ -3,13 +3,10 @@ use mathlib.Core.Path.{ap}
 use native.Mathlib.Omega.{arith}
 use lib.ListN.{length}
 use Rattle.constraint.specs.PutLaws.{puts_none, puts_is}
-use Rattle.constraint.specs.RecordLaws.{record_there, some, start_falls, before_last, last}
+use Rattle.constraint.specs.RecordLaws.{some, start_falls, before_last, last}
 use Rattle.normal.proofs.Forms.{ends_put, part_room, rest_room, small, dual_small, taken, under_not}
 use Rattle.normal.proofs.Forms.{nnf_ends, nnf_not, nnf_none, nnf_more, negation_ends, negation_not, negation_none, negation_more}
 use Rattle.normal.proofs.+negate_negate_all_to_nnf_to_nnf_all.Goals as goal
-
-pub negate-record_in-r-requires : goal.negate-record_in-r-requires
-negate-record_in-r-requires t c = record_there c.args.records.now _ c.requires.0
 
 pub negate-overflow_sub-k : goal.negate-overflow_sub-k
 negate-overflow_sub-k t c = omega (arith, (under_not c.args.records.now _ c.requires.0 _ c.record_in-r.ensures c.in-Not.is).0)
@@ -73,9 +70,6 @@ negate_all-negate-requires t c =
 pub negate_all-returns : goal.negate_all-returns
 negate_all-returns t c =
     ends_put (negation_more c.args.records.now _ _ c.requires.0 c.if-m-eq0.false _ c.start.ensures) _ _ c.negate_all-next.ensures c.negate.ensures
-
-pub to_nnf-record_in-r-requires : goal.to_nnf-record_in-r-requires
-to_nnf-record_in-r-requires t c = record_there c.args.records.now _ c.requires.0
 
 pub to_nnf-overflow_sub-k : goal.to_nnf-overflow_sub-k
 to_nnf-overflow_sub-k t c = omega (arith, (under_not c.args.records.now _ c.requires.0 _ c.record_in-r.ensures c.in-Not.is).0)

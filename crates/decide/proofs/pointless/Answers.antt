@@ -1,9 +1,0 @@
--- `decide::pointless` meets its contract. Assumes nothing.
-use mathlib.Core.Path.{refl}
-use lib.Ieee.{of_bits, of_int}
-use Rattle.interval.specs.Boxes.{padded}
-use Rattle.decide.proofs.pointless.Goals as goal
-
-pub returns : goal.returns
-unfolding padded of_bits of_int
-returns c = refl

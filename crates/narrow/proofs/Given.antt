@@ -1,0 +1,36 @@
+-- Two lists of ends that were tested, and what the narrowing leaves in them. Assumes nothing.
+use Prim.Native.Nat.{ℕ, ◌+◌}
+use mathlib.Core.Path.{◌≡◌, refl, sym, ◌∙◌}
+use mathlib.Core.Bool.{true}
+use mathlib.Core.List.{List}
+use native.Mathlib.Omega.{arith}
+use lib.Ieee.{Float}
+use lib.ListN.{length}
+use lib.Seq.{paste}
+use Rattle.std.specs.Prelude.{Ok}
+use Rattle.std.proofs.Common.{append-nil}
+use Rattle.std.proofs.lemmas.List.{drop_all}
+use Rattle.std.proofs.lemmas.List.Edits.{paste_all}
+use Rattle.settings.specs.declared.Settings.{Settings}
+use Rattle.settings.specs.Settings.{usual}
+use Rattle.interval.specs.declared.Interval.{Interval}
+use Rattle.interval.specs.Boxes.{intervals, lows, highs, are_boxes}
+use Rattle.interval.specs.BoxLaws.{as_many, boxes_paired, lows_length, highs_length}
+use Rattle.record.specs.Leaving.{◌leaving◌}
+use Rattle.constraint.specs.Constraint.{Constraint}
+use Rattle.narrow.specs.declared.PropResult.{PropResult}
+use Rattle.narrow.specs.Narrowing.{propagate}
+use Rattle.narrow.specs.Given.{ends, answered}
+
+-- as many are written as there are
+written : (old new : List Float) (n : ℕ) → length old ≡ n → length new ≡ n → paste old 0 new n ≡ new
+written old new n p q = rw (paste_all old 0 new n (sym q), drop_all (0 + n) old (omega arith), append-nil) refl
+
+module _ (lo hi : List Float) (t : are_boxes lo hi ≡ true) where
+  pub paired : length hi ≡ length lo
+  paired = as_many lo hi (boxes_paired lo hi t)
+
+  pub answers : (c : Constraint) {σ : Settings} {w : PropResult} {is : List Interval} {n : ℕ} {lo' hi' : List Float} → σ ≡ usual → (w leaving is) ≡ propagate σ c (intervals lo hi)
+      → n ≡ length lo → length is ≡ n → lo' ≡ paste lo 0 (lows is) n → hi' ≡ paste hi 0 (highs is) n → (Ok w leaving (lo', hi')) ≡ answered ends (propagate usual c (intervals lo hi))
+  answers c {w = w} {is = is} {n = n} s h e l p q =
+      rw (p, q, written lo (lows is) n (sym e) (lows_length is ∙ l), written hi (highs is) n (paired ∙ sym e) (highs_length is ∙ l), ← s, ← h) refl
