@@ -1,9 +1,9 @@
 // Halving (document 01; nra.rs): boxes are narrowed and halved until a point passes the check.
 #![tactic(auto)]
 
-mod answer; // what a solve answers
-mod halving; // one halving
-mod run; // many of them
+pub mod answer; // what a solve answers
+pub mod halving; // one halving
+pub mod run; // many of them
 
 ghost use Rattle.std.specs.Prelude.{◌≡◌, [], length};
 ghost use Rattle.settings.specs.Settings.{usual};

@@ -48,7 +48,7 @@ impl<'a> Task<'a> {
     }
 
     // All before the first halving.
-    fn begin(&self, start: Domain, order: &mut [u16]) -> ControlFlow<Solved, State>
+    pub fn begin(&self, start: Domain, order: &mut [u16]) -> ControlFlow<Solved, State>
         requires some { 0 < start.count }
         requires room { NoLarger self.now.records.nodes.now (length order.old) }
         ensures { progress_of result ≡ begin_in self.now.settings (asked self.now) (intervals_of start) }
@@ -89,7 +89,7 @@ impl<'a> Task<'a> {
     }
 
     // A halving, and all that follows it up to the next.
-    fn halve(&self, state: State, order: &mut [u16]) -> ControlFlow<Solved, State>
+    pub fn halve(&self, state: State, order: &mut [u16]) -> ControlFlow<Solved, State>
         requires few { state.halvings < 1_000_000 }
         requires room { NoLarger self.now.records.nodes.now (length order.old) }
         ensures { progress_of result ≡ halve self.now.settings (asked self.now) (state_of state) }
@@ -99,7 +99,7 @@ impl<'a> Task<'a> {
     }
 
     // Halves until the run breaks off or has made as many halvings as its limit.
-    fn steps(&self, start: Domain, order: &mut [u16]) -> ControlFlow<Solved, State>
+    pub fn steps(&self, start: Domain, order: &mut [u16]) -> ControlFlow<Solved, State>
         requires some { 0 < start.count }
         requires room { NoLarger self.now.records.nodes.now (length order.old) }
         ensures { progress_of result ≡ steps self.now.settings (asked self.now) self.now.limit (begin_in self.now.settings (asked self.now) (intervals_of start)) }
