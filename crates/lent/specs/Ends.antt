@@ -7,15 +7,14 @@ use Rattle.settings.specs.declared.Settings.{Settings}
 use Rattle.interval.specs.declared.Interval.{Interval}
 use Rattle.interval.specs.Boxes.{lows, highs, all_sound, are_paired, are_boxes}
 use Rattle.interval.specs.BoxLaws.{of_ends, lows_length, highs_length}
-use Rattle.record.specs.Leaving.{Leaving, ◌leaving◌}
+use Rattle.record.specs.Leaving.{◌leaving◌}
 use Rattle.file.specs.File.{Read, read_given}
-use Rattle.narrow.specs.declared.Propagated.{Propagated}
 use Rattle.narrow.specs.Narrowing.{propagate}
-use Rattle.narrow.specs.Given.{ends, tested, answered, propagate_given}
+use Rattle.narrow.specs.Given.{ends, Given, tested, answered, propagate_given}
 use Rattle.lent.specs.Lent.{propagate_lent}
 
 -- what a call leaves, its list as two lists of ends
-abbrev pub apart : Leaving Propagated (List Interval) → Leaving Propagated (List Float × List Float)
+abbrev pub apart : Given (List Interval) → Given (List Float × List Float)
 apart x = x.answer leaving ends x.places
 
 module _ (σ : Settings) (ys : List Interval) where
