@@ -1,55 +1,46 @@
 -- The lines that document 01's printing program prints, as bytes.
-use Rattle.std.specs.Prelude.{ℕ, zero, suc, List, [], ◌∷◌, ◌++◌, Bool, true, false, Float, codes, to_bits, slice_index_or}
+use Rattle.std.specs.Prelude.{ℕ, zero, suc, List, [], ◌∷◌, ◌++◌, length, Bool, Float, Result, Ok, Err, codes, to_bits, slice_index_or}
 use Rattle.std.specs.Float.{binary64, nan}
 use Rattle.std.specs.Fmt.{decimal}
-use Rattle.nra.specs.declared.answer.Solved.{Solved}
-use Rattle.nra.specs.declared.answer.Stop.{Stop}
+use Rattle.std.specs.Int.{from_bool}
+use Rattle.nra.specs.Solver.{Stop, conflict, tolerance, limit, unsatisfied, Answer, assignment, failed}
 use Rattle.eml_solve.specs.Hex.{hex_of}
 
 -- a line's end
 abbrev pub end : List ℕ
 end = 10 ∷ []
 
-abbrev pub bits_line : Float → List ℕ
-bits_line x = hex_of (to_bits binary64 x) ++ end
+abbrev pub bits_text : Float → List ℕ
+bits_text x = hex_of (to_bits binary64 x)
 
 abbrev pub stop_word : Stop → List ℕ
-stop_word Stop.Assignment = codes "assignment"
-stop_word Stop.Conflict = codes "conflict"
-stop_word Stop.Tolerance = codes "tolerance"
-stop_word Stop.Limit = codes "limit"
-stop_word Stop.Unsatisfied = codes "unsatisfied"
+stop_word conflict = codes "conflict"
+stop_word tolerance = codes "tolerance"
+stop_word limit = codes "limit"
+stop_word unsatisfied = codes "unsatisfied"
 
-abbrev pub exact_line : Bool → List ℕ
-exact_line true = codes "exact 1" ++ end
-exact_line false = codes "exact 0" ++ end
+abbrev pub halvings_line : ℕ → List ℕ
+halvings_line h = codes "halvings " ++ decimal h ++ end
 
--- of an assignment whether it is exact, and of any other answer the residual's bits
-abbrev pub quality_line : Stop → Bool → Float → List ℕ
-quality_line Stop.Assignment exact residual = exact_line exact
-quality_line Stop.Conflict exact residual = codes "best " ++ bits_line residual
-quality_line Stop.Tolerance exact residual = codes "best " ++ bits_line residual
-quality_line Stop.Limit exact residual = codes "best " ++ bits_line residual
-quality_line Stop.Unsatisfied exact residual = codes "best " ++ bits_line residual
+-- of an assignment, before its variables
+unfoldable pub assigned_lines : Bool → ℕ → List ℕ
+assigned_lines exact h = codes "assignment" ++ end ++ codes "exact " ++ decimal (from_bool exact) ++ end ++ halvings_line h
 
 abbrev pub variable_line : ℕ → Float → List ℕ
-variable_line i x = codes "v" ++ decimal i ++ codes " " ++ bits_line x
+variable_line i x = codes "v" ++ decimal i ++ codes " " ++ bits_text x ++ end
 
 -- the lines of the first n variables
 unfoldable pub variable_lines : ℕ → List Float → List ℕ
 variable_lines zero point = []
 variable_lines (suc n) point = variable_lines n point ++ variable_line n (slice_index_or point n nan)
 
-abbrev pub solved_lines : Solved → List ℕ
-solved_lines s = stop_word s.stop ++ end ++ quality_line s.stop s.exact s.residual ++ codes "halvings " ++ decimal s.halvings ++ end ++ variable_lines s.count s.point
+abbrev pub solved_lines : Answer → List ℕ
+solved_lines (assignment m exact h) = assigned_lines exact h ++ variable_lines (length m) m
+solved_lines (failed stop r h) = stop_word stop ++ end ++ codes "best " ++ bits_text r ++ end ++ halvings_line h
 
 abbrev pub refusal_line : ℕ → List ℕ
 refusal_line n = codes "refused " ++ decimal n ++ end
 
--- a refusal's number is not 0
-abbrev pub lines_by : ℕ → Solved → List ℕ
-lines_by zero s = solved_lines s
-lines_by (suc n) s = refusal_line (suc n)
-
-abbrev pub answer_lines : Solved → List ℕ
-answer_lines s = lines_by s.refusal s
+abbrev pub answer_lines : Result Answer ℕ → List ℕ
+answer_lines (Ok a) = solved_lines a
+answer_lines (Err n) = refusal_line n

@@ -3,118 +3,72 @@
 // reader and the writer that they stand for is compared by running.
 #![tactic(auto)]
 
-ghost use Rattle.std.specs.Prelude.{◌≡◌, ◌<◌, ◌≤◌, ◌++◌, OnOk, length};
+ghost use Rattle.std.specs.Prelude.{OnOk, Some, length};
 ghost use Rattle.std.specs.Io.KnownBytes.{Appends};
-ghost use Rattle.std.specs.Fmt.{decimal};
-ghost use Rattle.eml_solve.specs.Hex.{glyph, hex_of};
-ghost use Rattle.eml_solve.specs.Lines.{bits_line, end, stop_word, quality_line, variable_line, variable_lines, solved_lines, refusal_line, answer_lines};
+ghost use Rattle.eml_solve.specs.Lines.{bits_text, assigned_lines, variable_lines, solved_lines, answer_lines};
+ghost use Rattle.nra.specs.Answers.{answer_of};
 ghost use Rattle.nra.specs.Calls.{solve_file};
 ghost use Rattle.settings.specs.Settings.{usual};
 
-use nra::answer::{Solved, Stop};
-use std::io;
+use nra::Solved;
 use std::io::Write;
+use std::{fmt, io};
 
-fn digit(d: u8) -> u8
-    requires { d < 16 }
-    ensures { result ≡ glyph d }
-{
-    if d < 10 { 48 + d } else { 55 + d }
-}
+// An f64 as its bits, in hexadecimal digits.
+#[derive(Clone, Copy)]
+struct Bits(f64);
 
-fn hex(bits: u64) -> [u8; 16]
-    ensures { result ≡ hex_of bits }
-{
-    let mut text = [0u8; 16];
-    let mut left = bits;
-    let mut i: usize = 16;
-    while i > 0 {
-        i -= 1;
-        text[i] = digit((left % 16) as u8);
-        left = left / 16;
-    }
-    text
-}
+#[tactic(auto, using(crate::specs::HexLaws::padded_hex))]
+impl fmt::Display for Bits {
+    ghost output = { λ x. Some (bits_text x.0) };
 
-fn print_bits<W: Write>(out: &mut W, x: f64) -> io::Result<()>
-    ensures { OnOk result (Appends (W.contents out.old) (W.contents out.new) (bits_line x)) }
-{
-    let text = hex(number::bits_of(x));
-    out.write_all(&text)?;
-    writeln!(out)
-}
-
-fn print_count<W: Write>(out: &mut W, n: usize) -> io::Result<()>
-    ensures { OnOk result (Appends (W.contents out.old) (W.contents out.new) (decimal n)) }
-{
-    write!(out, "{n}")
-}
-
-fn print_stop<W: Write>(out: &mut W, stop: Stop) -> io::Result<()>
-    ensures { OnOk result (Appends (W.contents out.old) (W.contents out.new) (stop_word stop ++ end)) }
-{
-    let word = match stop {
-        Stop::Assignment => "assignment",
-        Stop::Conflict => "conflict",
-        Stop::Tolerance => "tolerance",
-        Stop::Limit => "limit",
-        Stop::Unsatisfied => "unsatisfied",
-    };
-    writeln!(out, "{word}")
-}
-
-// "exact" of an assignment, "best" of any other answer.
-fn print_quality<W: Write>(out: &mut W, stop: Stop, exact: bool, residual: f64) -> io::Result<()>
-    ensures { OnOk result (Appends (W.contents out.old) (W.contents out.new) (quality_line stop exact residual)) }
-{
-    let Stop::Assignment = stop else {
-        write!(out, "best ")?;
-        return print_bits(out, residual);
-    };
-    if exact {
-        writeln!(out, "exact 1")
-    } else {
-        writeln!(out, "exact 0")
+    fn fmt<W: fmt::Write>(&self, f: &mut fmt::Formatter<W>) -> fmt::Result {
+        let bits = number::bits_of(self.0);
+        write!(f, "{bits:016X}")
     }
 }
 
-fn print_variable<W: Write>(out: &mut W, i: usize, x: f64) -> io::Result<()>
-    ensures { OnOk result (Appends (W.contents out.old) (W.contents out.new) (variable_line i x)) }
+#[tactic(auto, unfolding(crate::specs::Lines::variable_lines))]
+fn print_variables<W: Write>(out: &mut W, point: &[f64]) -> io::Result<()>
+    ensures { OnOk result (Appends (W.contents out.old) (W.contents out.new) (variable_lines (length point.now) point.now)) }
 {
-    write!(out, "v")?;
-    print_count(out, i)?;
-    write!(out, " ")?;
-    print_bits(out, x)
-}
-
-fn print_variables<W: Write>(out: &mut W, point: [f64; 16], count: usize) -> io::Result<()>
-    requires { count ≤ length point }
-    ensures { OnOk result (Appends (W.contents out.old) (W.contents out.new) (variable_lines count point)) }
-{
-    for i in 0..count {
-        print_variable(out, i, point[i])?;
+    for (i, &x) in point.iter().enumerate() {
+        let bits = Bits(x);
+        writeln!(out, "v{i} {bits}")?;
     }
     Ok(())
 }
 
-fn print_solved<W: Write>(out: &mut W, s: Solved) -> io::Result<()>
-    requires { s.count ≤ length s.point }
-    ensures { OnOk result (Appends (W.contents out.old) (W.contents out.new) (solved_lines s)) }
+// What stands before the variables of an assignment.
+#[tactic(auto, unfolding(crate::specs::Lines::assigned_lines))]
+fn print_assigned<W: Write>(out: &mut W, exact: bool, halvings: usize) -> io::Result<()>
+    ensures { OnOk result (Appends (W.contents out.old) (W.contents out.new) (assigned_lines exact halvings)) }
 {
-    let stop = s.stop;
-    print_stop(out, stop)?;
-    print_quality(out, stop, s.exact, s.residual)?;
-    write!(out, "halvings ")?;
-    print_count(out, s.halvings)?;
-    writeln!(out)?;
-    let point = s.point;
-    print_variables(out, point, s.count)
+    let exact = u8::from(exact);
+    writeln!(out, "assignment\nexact {exact}\nhalvings {halvings}")
 }
 
-fn print_refusal<W: Write>(out: &mut W, number: u8) -> io::Result<()>
-    ensures { OnOk result (Appends (W.contents out.old) (W.contents out.new) (refusal_line number)) }
+fn print_solved<W: Write>(out: &mut W, solved: Solved) -> io::Result<()>
+    ensures { OnOk result (Appends (W.contents out.old) (W.contents out.new) (solved_lines (answer_of solved))) }
 {
-    writeln!(out, "refused {number}")
+    match solved {
+        Solved::Assignment {
+            point,
+            exact,
+            halvings,
+        } => {
+            print_assigned(out, exact, halvings)?;
+            print_variables(out, point.as_slice())
+        }
+        Solved::Failed {
+            stop,
+            residual,
+            halvings,
+        } => {
+            let bits = Bits(residual);
+            writeln!(out, "{stop}\nbest {bits}\nhalvings {halvings}")
+        }
+    }
 }
 
 const TOLERANCE: f64 = 1e-8;
@@ -123,11 +77,10 @@ const TOLERANCE: f64 = 1e-8;
 fn print_answer<W: Write>(out: &mut W, file: &[u8]) -> io::Result<()>
     ensures { OnOk result (Appends (W.contents out.old) (W.contents out.new) (answer_lines (solve_file usual file.now 10_000 TOLERANCE 16))) }
 {
-    let s = nra::solve_file(file, 10_000, TOLERANCE, 16);
-    if s.refusal != 0 {
-        return print_refusal(out, s.refusal);
+    match nra::solve_file(file, 10_000, TOLERANCE, 16) {
+        Ok(solved) => print_solved(out, solved),
+        Err(refusal) => writeln!(out, "{refusal}"),
     }
-    print_solved(out, s)
 }
 
 // Reads a byte more than the largest file has, so that no longer one is cut down to a legal length. A read that fails counts as the end of the file.
