@@ -107,7 +107,7 @@ later_few lo hi n room e =
     (leb-true n 16 (both (leb n 16) (sound binary64 lo hi) (none_unless 8 (leb n 16 && sound binary64 lo hi) w.0)).0, leb-true n room (none_unless 9 (leb n room) w.1))
 
 -- what a call answers has as many values as there is room for
-abbrev Fits : ℕ → Result QuantResult ℕ → Type 0
+abbrev pub Fits : ℕ → Result QuantResult ℕ → Type 0
 Fits room x = IfOk x (λ q. (length (point_of q) ≤ 16) × (length (point_of q) ≤ room))
 
 module _ (lo hi : Float) (n room : ℕ) (decide : Constraint → QuantResult) (few : (c : Constraint) → length (point_of (decide c)) ≤ n) where

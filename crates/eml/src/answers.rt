@@ -1,11 +1,11 @@
 // How an answer goes to the caller's places. A refusal leaves them as they were.
 ghost use Rattle.std.specs.Prelude.{◌≡◌, ◌≤◌, length};
-ghost use Rattle.std.proofs.Math.Seq.{paste};
 ghost use Rattle.record.specs.Leaving.{◌leaving◌};
 ghost use Rattle.record.specs.Refused.{numbered};
 ghost use Rattle.record.specs.Views.{old, final};
 ghost use Rattle.interval.specs.Views.{values_of};
 ghost use Rattle.eml.specs.Answers.{placed};
+ghost use Rattle.eml.specs.Places.{with_point};
 
 use interval::Point;
 use record::Refusal;
@@ -22,11 +22,12 @@ pub fn put<T: Copy>(answer: Result<T, Refusal>, place: &mut T) -> u8
     }
 }
 
-// The values of a point, to the first places.
-pub fn put_point(point: &Point, places: &mut [f64])
-    requires { point.now.count ≤ length places.old }
-    ensures { final places ≡ paste (old places) 0 (values_of point.now) point.now.count }
+// The values of a point, to the first places, and how many they are.
+pub fn put_point(point: &Point, places: &mut [f64]) -> usize
+    requires { length (values_of point.now) ≤ length places.old }
+    ensures { (result ≡ length (values_of point.now)) × (final places ≡ with_point (values_of point.now) (old places)) }
 {
     let values = point.as_slice();
     places[..values.len()].copy_from_slice(values);
+    values.len()
 }

@@ -1,8 +1,9 @@
 // Decisions about a variable in a range, on records. A refusal leaves the lent places as they were.
-ghost use Rattle.std.specs.Prelude.{◌≤◌, length, IfOk};
+ghost use Rattle.std.specs.Prelude.{length};
 ghost use Rattle.settings.specs.Settings.{usual};
-ghost use Rattle.decide.specs.Deciding.{point_of, decide_forall_given, decide_exists_given};
-ghost use Rattle.decide.specs.Views.{result_of, answered};
+ghost use Rattle.decide.specs.Deciding.{decide_forall_given, decide_exists_given};
+ghost use Rattle.decide.specs.Decisions.{Fits};
+ghost use Rattle.decide.specs.Views.{answered};
 ghost use Rattle.record.specs.Views.{old};
 ghost use Rattle.eml.specs.Places.{Decides};
 
@@ -16,7 +17,7 @@ fn put_decided(
     count: &mut usize,
     point: &mut [f64],
 ) -> u8
-    requires { IfOk answer (λ v. length (point_of (result_of v)) ≤ length point.old) }
+    requires { Fits (length point.old) (answered answer) }
     ensures { Decides verdict count point result (answered answer) }
 {
     let v = match answer {
@@ -26,8 +27,7 @@ fn put_decided(
     *verdict = v.into();
     match v {
         Verdict::TrueWithWitness(values) | Verdict::FalseWithCounterexample(values) => {
-            *count = values.count;
-            put_point(&values, point);
+            *count = put_point(&values, point);
         }
         Verdict::True | Verdict::Unknown => *count = 0,
     }

@@ -1,12 +1,14 @@
 // Solving, of a file and of records with bounds.
-ghost use Rattle.std.specs.Prelude.{◌≤◌, length, IfOk};
+ghost use Rattle.std.specs.Prelude.{length};
 ghost use Rattle.settings.specs.Settings.{usual};
+ghost use Rattle.nra.specs.Answers.{answered};
 ghost use Rattle.nra.specs.Calls.{solve_file, solve_given};
+ghost use Rattle.nra.specs.Fits.{Fits};
 ghost use Rattle.record.specs.Views.{old};
 ghost use Rattle.eml.specs.Places.{Solves};
 
 use crate::answers::put_point;
-use nra::answer::Solved;
+use nra::Solved;
 use record::Refusal;
 
 fn put_solved(
@@ -18,7 +20,7 @@ fn put_solved(
     count: &mut usize,
     point: &mut [f64],
 ) -> u8
-    requires { IfOk answer (λ s. length (point_of (answer_of s)) ≤ length point.old) }
+    requires { Fits (length point.old) (answered answer) }
     ensures { Solves stop exact residual halvings count point result (answered answer) }
 {
     let solved = match answer {
@@ -35,8 +37,7 @@ fn put_solved(
             *exact = is_exact;
             *residual = 0.0;
             *halvings = made;
-            *count = values.count;
-            put_point(&values, point);
+            *count = put_point(&values, point);
         }
         Solved::Failed {
             residual: left,

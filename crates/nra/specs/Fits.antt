@@ -93,7 +93,7 @@ module _ (σ : Settings) (p : Problem) (bounds : List Interval) where
   solve_few (suc limit) = run_few σ p _ (suc limit) _ (begin_at_few _)
 
 -- ---- the calls
-abbrev Fits : ℕ → Result Answer ℕ → Type 0
+abbrev pub Fits : ℕ → Result Answer ℕ → Type 0
 Fits room x = IfOk x (λ a. length (point_of a) ≤ room)
 
 room_enough : (c : Constraint) (room : ℕ) → room_refusal c room ≡ 0 → num_vars c ≤ room

@@ -6,15 +6,6 @@ use Rattle.std.proofs.lemmas.List.Edits.{sets, sets-eq}
 use Rattle.std.specs.List.{slice_index}
 use Rattle.std.specs.Int.{w64, to_le_bytes}
 use Rattle.record.specs.Bytes.{u32_bytes, u64_bytes}
-use Rattle.std.specs.Array.{IsFirstChunk}
-
--- the first n of what stands from `at` on
-pub chunk_at : (b : List ℕ) {y : List ℕ} (at n : ℕ) → IsFirstChunk (take (length b - at) (drop at b)) y n → at + n ≤ length b
-    → (k i : ℕ) → k < n → at + k ≡ i → slice_index y k ≡ get_or b i 0
-chunk_at b at n c h k i l e =
-    rw (← e)
-    (ap (λ (z : List ℕ). get_or z k 0) c.same ∙ get_or-take n _ k 0 l
-    ∙ get_or-take (length b - at) (drop at b) k 0 (omega arith) ∙ get_or-drop at b k 0)
 
 -- k bytes written over `b[at..at + k]`
 pub put_at : (b zs : List ℕ) {ys : List ℕ} (at k : ℕ) → at + k ≤ length b → length zs ≡ k → ys ≡ zs → put_mid at (at + k - at) b ys ≡ sets b at zs

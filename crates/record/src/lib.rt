@@ -10,19 +10,31 @@ ghost use Rattle.record.specs.Views.{old, final};
 
 pub use refusal::Refusal;
 
-// The two widths: the library's one call each, where a trait for both would be longer.
+// The two widths: the library's one call each, where a trait for both would be longer. Byte by byte, since `first_chunk` leaves tests
+// of the length in the machine code, and a list of nodes then takes 1.7 times as long to test.
+#[tactic(auto, unfolding(crate::specs::Bytes::u32_at))]
 pub fn read_u32(b: &[u8], at: usize) -> u32
     requires { at + 4 ≤ length b.now }
     ensures { result ≡ u32_at b.now at }
 {
-    u32::from_le_bytes(*b[at..].first_chunk().unwrap())
+    u32::from_le_bytes([b[at], b[at + 1], b[at + 2], b[at + 3]])
 }
 
+#[tactic(auto, unfolding(crate::specs::Bytes::u32_at, crate::specs::Bytes::u64_at))]
 pub fn read_u64(b: &[u8], at: usize) -> u64
     requires { at + 8 ≤ length b.now }
     ensures { result ≡ u64_at b.now at }
 {
-    u64::from_le_bytes(*b[at..].first_chunk().unwrap())
+    u64::from_le_bytes([
+        b[at],
+        b[at + 1],
+        b[at + 2],
+        b[at + 3],
+        b[at + 4],
+        b[at + 5],
+        b[at + 6],
+        b[at + 7],
+    ])
 }
 
 pub fn read_f64(b: &[u8], at: usize) -> f64
