@@ -2,8 +2,8 @@
 -- at most as many values as there are variables. Of the definitions first, then of what the calls return. Assumes nothing.
 use Rattle.std.proofs.Math.Path.{◌≡◌, refl, ap, subst}
 use Rattle.std.proofs.Common.{sym, ◌∙◌, leb-true, length-set}
-use Prim.Native.Nat.{ℕ, zero, suc, ◌-◌, ◌/◌, ◌≤◌}
-use Rattle.std.specs.Prelude.{Bool, ◌&&◌, cond, leb, replicate, Float, Option, Some, None, Result, Ok, Err, IfOk}
+use Prim.Native.Nat.{ℕ, zero, suc, ◌/◌, ◌≤◌}
+use Rattle.std.specs.Prelude.{Bool, ◌&&◌, cond, leb, replicate, Float, Option, Some, None, Result, Ok, IfOk}
 use Rattle.std.specs.List.{find}
 use Rattle.std.proofs.Math.Bool.{true, false, not}
 use mathlib.Core.List.{List, [], ◌∷◌}
@@ -26,7 +26,7 @@ use Rattle.point.specs.Check.{check}
 use Rattle.narrow.specs.declared.PropResult.{PropResult}
 use Rattle.narrow.specs.declared.PropResult.TheVariants.{Changed, Stable, Conflict}
 use Rattle.narrow.specs.Narrowing.{is_conflict, propagate}
-use Rattle.decide.specs.Deciding.{QuantResult, True, TrueWithWitness, FalseWithCounterexample, Unknown}
+use Rattle.decide.specs.Deciding.{QuantResult, True, TrueWithWitness, FalseWithCounterexample}
 use Rattle.decide.specs.Deciding.{point_at, forall_samples, exists_samples, boxes_at, refutes, forall_by, decide_forall, exists_by, decide_exists, point_of, range_refusal, later_refusal, decided_by, decide_forall_given, decide_exists_given}
 
 pub point_length : (n v : ℕ) (x : Float) → length (point_at n v x) ≡ n

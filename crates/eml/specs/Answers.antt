@@ -1,6 +1,6 @@
 -- What an exported call returns and leaves in the lent places, from the answer of the function behind it: 0 with what the answer holds, or a
 -- refusal's number with the places as they were.
-use Rattle.std.specs.Prelude.{ℕ, Bool, Float, Result, Ok, Err}
+use Rattle.std.specs.Prelude.{ℕ, Float, Result, Ok, Err}
 use Rattle.std.specs.Borrow.{MutBor}
 use denote.Triple.Both.{Both}
 use Rattle.record.specs.Leaving.{Leaving, ◌leaving◌}
