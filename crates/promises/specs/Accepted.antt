@@ -1,5 +1,5 @@
 -- What an accepted file says, and accepted records: the problem, that it is fair, and that the calls answer it as the definition does. Assumes nothing.
-use Rattle.std.specs.Prelude.{◌≡◌, refl, ℕ, zero, suc, ◌-◌, ◌/◌, ◌≤◌, true, List, [], ◌∷◌, ◌++◌, length, Float, Result, Ok, Err}
+use Rattle.std.specs.Prelude.{◌≡◌, refl, ℕ, zero, suc, ◌-◌, ◌/◌, ◌≤◌, true, List, [], ◌∷◌, ◌++◌, length, Float, Ok, Err}
 use Rattle.std.proofs.Common.{arith}
 use Rattle.number.specs.Order.{passed}
 use Rattle.record.specs.Refusal.{◌or_else◌, refused_or}
