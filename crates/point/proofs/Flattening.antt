@@ -4,7 +4,7 @@ use mathlib.Core.Path.{◌≡◌, refl, sym, ap, ◌∙◌}
 use mathlib.Core.List.{List, [], ◌∷◌, ◌++◌, map-append}
 use native.Mathlib.Omega.{arith}
 use borrow.Rule.Slice.PartMut.{put_mid, post_of}
-use lib.ListN.{length, take, drop, set, length-take, length-drop}
+use lib.ListN.{length, take, drop, set, length-append, length-take, length-drop}
 use lib.Seq.{length-take-le, take-append-add}
 use Rattle.std.proofs.lemmas.List.{take-append-le}
 use Rattle.std.proofs.lemmas.Grind.{common_steps}
@@ -23,6 +23,9 @@ take_both m r k order part h g =
     ap (λ (n : ℕ). take (n + r) (put_mid m k order part)) (sym (length-take-le m order h))
     ∙ take-append-add (take m order) (part ++ post_of m k order) r
     ∙ ap (λ (l : List ℕ). take m order ++ l) (take-append-le r part (post_of m k order) g)
+
+put_length : (m k : ℕ) (order part : List ℕ) → m ≤ length order → length part ≡ length order - m → length (put_mid m k order part) ≡ length order + (length order - (m + k))
+put_length m k order part h e = simp (length-append, length-take-le m order h, length-drop) (omega arith)
 
 -- what node k's children wrote into the first n places
 pub record Children (b : List ℕ) (k : ℕ) (order : List ℕ) (n : ℕ) : Type 0 where
@@ -60,17 +63,28 @@ module _ (b : List ℕ) (k : ℕ) (v : Valid b (k + 1)) where
     sizes = ap size is_eml
 
     -- the left's, and the right's in the rest
-    pub both : {order part : List ℕ} {m r : ℕ} (before : List ℕ) (n : ℕ) → Flattened b order m (tree_at b i) → Flattened b part r (tree_at b j) →
-        size (tree_at b k) ≤ length before → length order ≡ length before → length part ≡ length (take (length order - m) (drop m order)) → Children b k (put_mid m n order part) (m + r)
-    unfolding postorder
-    both {order} {part} {m} {r} before n f g room same rest =
-        let s = sizes in
-        let l : length part ≡ length order - m = rest ∙ simp (length-take, length-drop) (omega arith) in
-        let t = take_both m r n order part (omega (arith, f.many)) (omega (arith, f.many, g.many)) in record {
-          many = omega (arith, f.many, g.many);
-          holds = rw (t, map-append _ (take m order) (take r part), f.holds, g.holds, e, is_eml) refl;
-          numbers = rw t (All-append Record (take m order) (take r part) f.numbers g.numbers);
-        }
+    module _ {order part : List ℕ} {m r : ℕ} (f : Flattened b order m (tree_at b i)) (g : Flattened b part r (tree_at b j))
+        (before : List ℕ) (room : size (tree_at b k) ≤ length before) (same : length order ≡ length before)
+        (n : ℕ) (rest : length part ≡ length (take (length order - m) (drop m order))) where
+      long : length part ≡ length order - m
+      long = rest ∙ simp (length-take, length-drop) (omega arith)
+
+      pub place : m + r < length (put_mid m n order part)
+      place =
+          let s = sizes in
+          let l = long in
+          omega (arith, f.many, g.many, put_length m n order part (omega (arith, f.many)) l)
+
+      pub both : Children b k (put_mid m n order part) (m + r)
+      unfolding postorder
+      both =
+          let s = sizes in
+          let l = long in
+          let t = take_both m r n order part (omega (arith, f.many)) (omega (arith, f.many, g.many)) in record {
+            many = omega (arith, f.many, g.many);
+            holds = rw (t, map-append _ (take m order) (take r part), f.holds, g.holds, e, is_eml) refl;
+            numbers = rw t (All-append Record (take m order) (take r part) f.numbers g.numbers);
+          }
 
   -- the node's own number
   pub node : {order : List ℕ} {n : ℕ} → Children b k order n → n < length order → Flattened b (set order n k) (n + 1) (tree_at b k)

@@ -1,12 +1,13 @@
 -- The machine's loop: running what is left on the stack gives what running all gives. Assumes nothing.
-use Prim.Native.Nat.{ℕ, ◌<◌, ◌≤◌, ◌+◌}
+use Prim.Native.Nat.{ℕ, ◌<◌, ◌≤◌, ◌+◌, ◌-◌}
 use mathlib.Core.Path.{◌≡◌, sym, ap, ◌∙◌, subst}
-use mathlib.Core.List.{List, [], ◌∷◌}
+use mathlib.Core.List.{List, [], ◌∷◌, reverse}
 use native.Mathlib.Omega.{arith}
 use native.Mathlib.Numerals.{add-one}
 use lib.Ieee.{Float}
-use lib.ListN.{length, get_or, drop, length-map, get_or-map, drop_of_length-le}
+use lib.ListN.{length, get_or, take, drop, set, length-map, get_or-map, drop_of_length-le}
 use lib.Seq.{drop-cons}
+use Rattle.std.proofs.lemmas.Grind.{common_steps}
 use Rattle.std.specs.Prelude.{Result, Ok, Err}
 use Rattle.maths.specs.declared.Complex.{Complex}
 use Rattle.settings.specs.declared.Settings.{Settings}
@@ -15,7 +16,7 @@ use Rattle.point.specs.declared.eval.Instruction.{Instruction}
 use Rattle.point.specs.declared.eval.Instruction.TheVariants.{PushOne, PushConst, PushVar, Eml}
 use Rattle.point.specs.declared.eval.EvalError.{EvalError}
 use Rattle.point.specs.Eval.{eml_complex, variable, and_then}
-use Rattle.point.specs.Machine.{instruction_of, instructions, Outcome, pushed, step, run, top, Balanced, Fit, height}
+use Rattle.point.specs.Machine.{instruction_of, instructions, Outcome, pushed, reduced, step, run, top, Balanced, Fit, height}
 
 -- the instruction of the number at place j
 module _ (b numbers : List ℕ) where
@@ -29,6 +30,33 @@ module _ (b numbers : List ℕ) where
 
   pub done : (j : ℕ) → length numbers ≤ j → drop j (instructions b numbers) ≡ []
   done j h = drop_of_length-le (instructions b numbers) {i = j} (omega (arith, all))
+
+-- ---- the stack, in the first h places
+abbrev pub view : List Complex → ℕ → List Complex
+view places h = reverse (take h places)
+
+pub pushed_at : (places : List Complex) (h : ℕ) (z : Complex) → h < length places → view (set places h z) (h + 1) ≡ z ∷ view places h
+pushed_at places h z w = grind (arith, common_steps)
+
+two : (places : List Complex) (h : ℕ) (d : Complex) → 2 ≤ h → h ≤ length places → view places h ≡ get_or places (h - 2 + 1) d ∷ get_or places (h - 2) d ∷ view places (h - 2)
+two places h d w l = grind (arith, common_steps)
+
+pub single : (places : List Complex) (h : ℕ) (d : Complex) → h ≡ 1 → h ≤ length places → view places h ≡ get_or places 0 d ∷ []
+single places h d e l = grind (arith, common_steps)
+
+pub high : (places : List Complex) (h : ℕ) → h ≤ length places → length (view places h) ≡ h
+high places h l = grind (arith, common_steps)
+
+-- what an Eml's step makes of two values
+pub reduces : (σ : Settings) (p : List Float) (places : List Complex) (h : ℕ) (d : Complex) → 2 ≤ h → h ≤ length places →
+    step σ p Eml (view places h) ≡ pushed (eml_complex σ (get_or places (h - 2) d) (get_or places (h - 2 + 1) d)) (view places (h - 2))
+unfolding step
+reduces σ p places h d w l = ap (reduced σ) (two places h d w l)
+
+-- an instruction's value, to be stored at place j
+pub record Computed (σ : Settings) (p : List Float) (i : Instruction) (places : List Complex) (h j : ℕ) (z : Complex) : Type 0 where
+  pub is : step σ p i (view places h) ≡ Ok (z ∷ view places j)
+  pub there : j < length places
 
 -- a step that fits leaves the height that is told
 fits : (most : ℕ) (i : Instruction) (h : ℕ) → h ≤ most → Fit most h i → height h i ≤ most

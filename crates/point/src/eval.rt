@@ -7,7 +7,6 @@ ghost use Rattle.point.specs.Machine.{instruction_of, instructions, Flattened, R
 ghost use Rattle.tree.specs.Views.{the_tree};
 ghost use Rattle.record.specs.Views.{final};
 
-use super::stack::Stack;
 use maths::Complex;
 use settings::Settings;
 use tree::Node;
@@ -48,13 +47,14 @@ fn flatten_postorder(nodes: &[u8], k: usize, order: &mut [u16]) -> usize
     requires k_in_bounds { size (tree_at nodes.now k) ≤ length order.old }
     ensures { Flattened nodes.now (final order) result (the_tree nodes k) }
 {
-    let mut count = 0;
-    if let Node::Eml(left, right) = tree::node_in(nodes, k) {
-        count = flatten_postorder(nodes, left, order);
-        count += flatten_postorder(nodes, right, &mut order[count..]);
-    }
-    order[count] = k as u16;
-    count + 1
+    let Node::Eml(left, right) = tree::node_in(nodes, k) else {
+        order[0] = k as u16;
+        return 1;
+    };
+    let middle = flatten_postorder(nodes, left, order);
+    let end = middle + flatten_postorder(nodes, right, &mut order[middle..]);
+    order[end] = k as u16;
+    end + 1
 }
 
 // The library's `clamp` requires its ends in order, and the settings may hold any number.
@@ -115,31 +115,32 @@ fn variable(i: usize, point: &[f64]) -> Result<Complex, EvalError>
     Ok(real(point[i]))
 }
 
-// Runs the nodes' instructions on an empty stack.
-fn run<const N: usize>(
+// Runs the nodes' instructions. The stack is the first `height` of the places.
+fn run(
     nodes: &[u8],
     order: &[u16],
     settings: Settings,
     point: &[f64],
-    stack: &mut Stack<N>,
+    places: &mut [Complex],
 ) -> Result<Complex, EvalError>
-    requires runs { Runs nodes.now order.now N }
-    requires empty { stack.old ≡ [] }
+    requires { Runs nodes.now order.now (length places.old) }
     ensures { result ≡ and_then (running settings point.now (instructions nodes.now order.now) []) top }
 {
+    let mut height = 0;
     for k in order {
-        match instruction_of(tree::node_in(nodes, *k as usize)) {
-            Instruction::PushOne => stack.push(real(1.0)),
-            Instruction::PushConst(v) => stack.push(real(v)),
-            Instruction::PushVar(i) => stack.push(variable(i, point)?),
+        let value = match instruction_of(tree::node_in(nodes, *k as usize)) {
+            Instruction::PushOne => real(1.0),
+            Instruction::PushConst(v) => real(v),
+            Instruction::PushVar(i) => variable(i, point)?,
             Instruction::Eml => {
-                let right = stack.pop();
-                let left = stack.pop();
-                stack.push(eml_complex(settings, left, right)?);
+                height -= 2;
+                eml_complex(settings, places[height], places[height + 1])?
             }
-        }
+        };
+        places[height] = value;
+        height += 1;
     }
-    Ok(stack.pop())
+    Ok(places[0])
 }
 
 // The order is lent, so that it is made once for many evaluations. The stack is made for each; most trees are short, and a short one is
@@ -157,11 +158,9 @@ pub fn eval_complex(
 {
     let n = flatten_postorder(nodes, k, order);
     if n < 32 {
-        let mut stack: Stack<16> = Stack::new();
-        return run(nodes, &order[..n], settings, point, &mut stack);
+        return run(nodes, &order[..n], settings, point, &mut [real(0.0); 16]);
     }
-    let mut stack: Stack<128> = Stack::new();
-    run(nodes, &order[..n], settings, point, &mut stack)
+    run(nodes, &order[..n], settings, point, &mut [real(0.0); 128])
 }
 
 fn real_part(z: Complex) -> Result<f64, EvalError>

@@ -5,7 +5,6 @@ mod checking;
 pub mod eval; // eval.rs: a tree's value
 pub mod helpers; // helpers.rs: the check and the residual
 mod shortfalls;
-mod stack;
 
 ghost use Rattle.std.specs.Prelude.{◌≡◌, ◌+◌, ◌≤◌, length, IfOk, OnOk};
 ghost use Rattle.settings.specs.Settings.{usual};
