@@ -128,7 +128,8 @@ fn functions_of_the_map() {
                 code = text(&format!("crates/{name}/src/{file}"));
             } else {
                 let function = word.trim_start_matches("Canonical::");
-                assert!(code.contains(&format!("fn {function}(")), "{row}: {word}");
+                let there = ["(", "<"].map(|next| code.contains(&format!("fn {function}{next}")));
+                assert!(there.contains(&true), "{row}: {word}");
                 functions += 1;
             }
         }
