@@ -42,10 +42,10 @@ module _ (b : List ℕ) (k : ℕ) (v : Valid b (k + 1)) where
   unfolding postorder size
   alone order other = go (node_at b k) refl
     where
-      leaf : {x : Node} {t : Tree} → node_at b k ≡ x → tree_at b k ≡ t → postorder t ≡ instruction_of x ∷ [] → size t ≡ 1 → Children b k order 0
-      leaf e f g h = record { many = sym (ap size f ∙ h); holds = ap (λ (y : Node). instruction_of y ∷ []) e ∙ sym (ap postorder f ∙ g); numbers = λ j d l. absurd (omega arith) }
+      leaf : {x : Node ℕ} {t : Tree} → node_at b k ≡ x → tree_at b k ≡ t → postorder t ≡ instruction_of x ∷ [] → size t ≡ 1 → Children b k order 0
+      leaf e f g h = record { many = sym (ap size f ∙ h); holds = ap (λ (y : Node ℕ). instruction_of y ∷ []) e ∙ sym (ap postorder f ∙ g); numbers = λ j d l. absurd (omega arith) }
 
-      go : (x : Node) → node_at b k ≡ x → Children b k order 0
+      go : (x : Node ℕ) → node_at b k ≡ x → Children b k order 0
       go Node.One e = leaf e (tree_one b k e) refl refl
       go (Node.Const c) e = leaf e (tree_const b k c e) refl refl
       go (Node.Var i) e = leaf e (tree_var b k i e) refl refl

@@ -13,7 +13,7 @@ use Rattle.point.specs.declared.eval.EvalError.{EvalError}
 use Rattle.point.specs.declared.eval.EvalError.TheVariants.{NanEncountered}
 use Rattle.point.specs.Eval.{real, variable, eml_complex, and_then}
 
-abbrev pub instruction_of : Node → Instruction
+abbrev pub instruction_of : Node ℕ → Instruction
 instruction_of Node.One = PushOne
 instruction_of (Node.Const v) = PushConst v
 instruction_of (Node.Var i) = PushVar i
