@@ -4,23 +4,22 @@ ghost use Rattle.record.specs.Refusal.{◌unless◌};
 ghost use Rattle.record.specs.Refused.{refusal_of};
 ghost use Rattle.tree.specs.Nodes.{Valid};
 ghost use Rattle.constraint.specs.Records.{records_refusal};
-ghost use Rattle.constraint.specs.Starts.{Ready, NoLarger};
+ghost use Rattle.constraint.specs.Starts.{Ready};
 ghost use Rattle.constraint.specs.Code.{binds, greatest, depths, quantified, starts};
 
 use crate::stack::{Finished, Stack};
 use crate::{Record, is_ranged, is_record, own_vars, quantifier_of, record_in, taken_by};
 use record::Refusal;
+use tree::EmlTree;
 
-// They stand over nodes that passed too, of which no tree is larger than `largest`; `starts` has the first record of each constraint.
+// They stand over nodes that passed too; `starts` has the first record of each constraint.
 #[derive(Drop)]
 pub struct Records<'a> {
     pub nodes: &'a [u8],
     pub constraints: &'a [u8],
     pub starts: [u8; 256],
     pub count: usize,
-    pub largest: usize,
     pub ghost ready: { Ready nodes.now constraints.now count starts },
-    pub ghost no_larger: { NoLarger nodes.now largest },
 }
 
 // What record number k finishes, from those that it takes: 7.
@@ -48,14 +47,12 @@ impl<'a> Records<'a> {
     ghost use Rattle.constraint.specs.Constraint.{num_vars, num_vars_all};
     ghost use Rattle.constraint.specs.Starts.{start_at};
     ghost use Rattle.constraint.specs.Views.{constraint_of, constraints_before, Taken};
+    ghost use Rattle.tree.specs.Nodes.{tree_at};
+    ghost use Rattle.tree.specs.Views.{the_tree};
 
     // The tests of each record: 5, 6, then 7; then 7 unless just one constraint is left.
-    pub fn new(
-        nodes: &'a [u8],
-        constraints: &'a [u8],
-        largest: usize,
-    ) -> Result<Records<'a>, Refusal>
-        requires nodes { Valid nodes.now (length nodes.now / 16) × NoLarger nodes.now largest }
+    pub fn new(nodes: &'a [u8], constraints: &'a [u8]) -> Result<Records<'a>, Refusal>
+        requires nodes { Valid nodes.now (length nodes.now / 16) }
         requires few { length constraints.now / 24 ≤ 256 }
         ensures refusal { refusal_of result ≡ records_refusal (length nodes.now / 16) constraints.now (length constraints.now / 24) }
         ensures records { IfOk result (λ r. (r.nodes.now ≡ nodes.now) × (r.constraints.now ≡ constraints.now) × (r.count ≡ length constraints.now / 24)) }
@@ -87,7 +84,6 @@ impl<'a> Records<'a> {
             constraints,
             starts,
             count,
-            largest,
         })
     }
 
@@ -104,6 +100,17 @@ impl<'a> Records<'a> {
         ensures { result ≡ start_at self.now.constraints.now k }
     {
         usize::from(self.starts[k])
+    }
+
+    // The tree of node i.
+    pub fn tree(&self, i: usize) -> EmlTree<'a>
+        requires { Valid self.now.nodes.now (i + 1) }
+        ensures { the_tree result ≡ tree_at self.now.nodes.now i }
+    {
+        EmlTree {
+            nodes: self.nodes,
+            root: i,
+        }
     }
 
     // The number of variables of constraint k.

@@ -146,8 +146,8 @@ fn read_records<'a>(nodes: &'a [u8], constraints: &'a [u8]) -> Result<Records<'a
     ensures refusal { refusal_of result ≡ (nodes_refusal nodes.now (length nodes.now / 16) or_else records_refusal (length nodes.now / 16) constraints.now (length constraints.now / 24)) }
     ensures records { IfOk result (Holds nodes.now constraints.now) }
 {
-    let largest = tree::test_sizes(nodes, nodes.len() / 16)?;
-    Records::new(nodes, constraints, largest)
+    tree::test_sizes(nodes, nodes.len() / 16)?;
+    Records::new(nodes, constraints)
 }
 
 // ---- what other crates call
