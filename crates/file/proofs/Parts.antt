@@ -11,12 +11,9 @@ use Rattle.record.specs.Refusal.{◌or_else◌, first}
 use Rattle.record.specs.Refused.{refusal_of}
 use Rattle.record.specs.declared.refusal.Refusal.{Refusal}
 use Rattle.tree.specs.Nodes.{nodes_refusal}
-use Rattle.tree.specs.Code.{largest}
-use Rattle.tree.specs.SizeLaws.{list_within}
 use Rattle.interval.specs.Views.{intervals_of}
 use Rattle.interval.specs.declared.domain.Domain.{Domain}
 use Rattle.constraint.specs.Records.{records_refusal}
-use Rattle.constraint.specs.Starts.{NoLarger}
 use Rattle.constraint.specs.Views.{the_constraint}
 use Rattle.constraint.specs.declared.records.Records.{Records}
 use Rattle.file.specs.File.{node_count, constraint_count, bound_count, constraints_from, bounds_from, nodes_of, constraints_of, bounds_of, is_headed, is_laid_out, bounds, bound_refusal, refusal, Accepted, read_file, given_refusal, read_given, is_counted}
@@ -41,10 +38,6 @@ module _ (file : List ℕ) (n c : ℕ) (en : n ≡ node_count file) (ec : c ≡ 
       let f : 32 + 16 * n + 24 * c ≡ bounds_from file = omega arith in
       take_all (length file - (32 + 16 * n + 24 * c)) (drop (32 + 16 * n + 24 * c) file) (omega (arith, length-drop (32 + 16 * n + 24 * c) file))
       ∙ ap (λ (i : ℕ). drop i file) f
-
--- ---- the largest of nodes that passed
-pub no_larger : (nodes : List ℕ) {m : ℕ} → m ≡ largest nodes (length nodes / 16) → NoLarger nodes m
-no_larger nodes e i v = list_within nodes (length nodes / 16) e i (omega (arith, v.there))
 
 -- ---- a file, by its tests
 or_else_assoc : (a b c : ℕ) → ((a or_else b) or_else c) ≡ (a or_else (b or_else c))
