@@ -1,6 +1,4 @@
 mod Threshold
 mod Machine
-mod Flattening
-mod Loop
 mod Measuring
 mod Answers

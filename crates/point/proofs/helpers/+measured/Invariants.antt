@@ -3,6 +3,7 @@ use Prim.Native.Nat.{◌+◌, ◌*◌}
 use mathlib.Core.Path.{◌≡◌}
 use lib.ListN.{set, drop}
 use Rattle.std.specs.List.{fold}
+use Rattle.interval.specs.Views.{values_of}
 use Rattle.constraint.specs.Views.{constraint_of}
 use Rattle.point.specs.Measure.{quantified}
 use Rattle.point.proofs.helpers.+measured.Given as goal
@@ -20,4 +21,4 @@ abbrev pub invariant-measured_samples-loop-x : goal.invariant-measured_samples-l
 invariant-measured_samples-loop-x g l =
     let c = constraint_of l.records l.k in
     let m = g.M.Measure in
-    fold (λ t x. m.sample_more l.each t (m.measure l.settings (set l.point l.v x) c)) l.total (drop l.x-index l.x-items) ≡ m.measure l.settings l.point (quantified l.each l.v l.lo l.hi c)
+    fold (λ t x. m.sample_more l.each t (m.measure l.settings (set (values_of l.point) l.v x) c)) l.total (drop l.x-index l.x-items) ≡ m.measure l.settings (values_of l.point) (quantified l.each l.v l.lo l.hi c)
