@@ -7,7 +7,8 @@ use native.Mathlib.Omega.{arith}
 use Rattle.std.specs.Prelude.{Result, Ok, Err, IfOk}
 use lib.ListN.{length, take, drop, length-drop}
 use lib.Seq.{take_all}
-use Rattle.record.specs.Refusal.{◌or_else◌, first}
+use Rattle.record.specs.Refusal.{◌or_else◌, ◌unless◌, first}
+use Rattle.record.specs.RefusalLaws.{or_else_none, or_else_refused}
 use Rattle.record.specs.Refused.{refusal_of}
 use Rattle.record.specs.declared.refusal.Refusal.{Refusal}
 use Rattle.tree.specs.Nodes.{nodes_refusal}
@@ -17,7 +18,7 @@ use Rattle.constraint.specs.Records.{records_refusal}
 use Rattle.constraint.specs.Views.{the_constraint}
 use Rattle.constraint.specs.declared.records.Records.{Records}
 use Rattle.file.specs.File.{node_count, constraint_count, bound_count, constraints_from, bounds_from, nodes_of, constraints_of, bounds_of, is_headed, is_laid_out, bounds, bound_refusal, refusal, Accepted, read_file, given_refusal, read_given, is_counted}
-use Rattle.file.specs.Code.{Laid, Holds}
+use Rattle.file.specs.Code.{Laid, Holds, header_refusal}
 use Rattle.file.specs.FileLaws.{length_nodes, length_constraints, length_bounds, read_is, given_is}
 
 module _ (file : List ℕ) (n c : ℕ) (en : n ≡ node_count file) (ec : c ≡ constraint_count file) where
@@ -44,13 +45,11 @@ or_else_assoc : (a b c : ℕ) → ((a or_else b) or_else c) ≡ (a or_else (b or
 or_else_assoc zero b c = refl
 or_else_assoc (suc a) b c = refl
 
-pub not_headed : (file : List ℕ) → is_headed file ≡ false → 1 ≡ refusal file
-unfolding refusal
-not_headed file e = simp e
-
-pub not_laid_out : (file : List ℕ) → is_headed file ≡ true → is_laid_out file ≡ false → 2 ≡ refusal file
-unfolding refusal
-not_laid_out file h e = simp (h, e)
+-- what the header's tests refuse
+pub headed_is : (file : List ℕ) {r : ℕ} → r ≡ header_refusal file → (r ≡ 0 → ⊥) → r ≡ refusal file
+unfolding refusal header_refusal
+headed_is file {r} e h =
+    e ∙ or_else_refused (header_refusal file) _ (λ z. h (e ∙ z)) ∙ or_else_assoc (1 unless is_headed file) (2 unless is_laid_out file) _
 
 -- of its bodies, as they are read
 module _ (file : List ℕ) (l : Laid file) {nodes b c : List ℕ} (en : nodes ≡ nodes_of file) (eb : b ≡ constraints_of file) (ec : c ≡ bounds_of file) where
@@ -66,22 +65,15 @@ module _ (file : List ℕ) (l : Laid file) {nodes b c : List ℕ} (en : nodes �
   pub bounds_counted : length c / 16 ≡ bound_count file
   bounds_counted = omega (arith, ap length ec, length_bounds file l)
 
-  module _ (h : is_headed file ≡ true) (o : is_laid_out file ≡ true) where
-    abbrev A : ℕ
-    A = nodes_refusal (nodes_of file) (node_count file)
-
-    abbrev B : ℕ
-    B = records_refusal (node_count file) (constraints_of file) (constraint_count file)
-
-    abbrev C : ℕ
-    C = first (bound_refusal (bounds_of file)) (bound_count file)
-
-    by_tests : refusal file ≡ (A or_else B or_else C)
-    unfolding refusal
-    by_tests = simp (h, o)
-
-    pub by_parts : (records_part or_else first (bound_refusal c) (length c / 16)) ≡ refusal file
-    by_parts = rw (nodes_counted, constraints_counted, bounds_counted, en, eb, ec) (or_else_assoc A B C ∙ sym by_tests)
+  -- after the header's tests
+  pub by_parts : header_refusal file ≡ 0 → (records_part or_else first (bound_refusal c) (length c / 16)) ≡ refusal file
+  unfolding refusal header_refusal
+  by_parts e =
+      let A = nodes_refusal (nodes_of file) (node_count file) in
+      let B = records_refusal (node_count file) (constraints_of file) (constraint_count file) in
+      let C = first (bound_refusal (bounds_of file)) (bound_count file) in
+      rw (nodes_counted, constraints_counted, bounds_counted, en, eb, ec)
+      (or_else_assoc A B C ∙ or_else_none _ _ e ∙ or_else_assoc (1 unless is_headed file) (2 unless is_laid_out file) (A or_else B or_else C))
 
   pub file_is : refusal file ≡ 0 → (r : Records) (d : Domain) → Holds nodes b r → intervals_of d ≡ bounds c (length c / 16) → read_file file ≡ Accepted (the_constraint r) (intervals_of d)
   file_is z r d k e = rw (k.nodes_are, k.constraints_are, k.counted, constraints_counted, e, bounds_counted, en, eb, ec) (read_is file z)

@@ -10,7 +10,7 @@ ghost use Rattle.constraint.specs.Constraint.{num_vars};
 ghost use Rattle.constraint.specs.Records.{records_refusal};
 ghost use Rattle.constraint.specs.Views.{the_constraint};
 ghost use Rattle.file.specs.File.{node_count, constraint_count, bound_count, nodes_of, constraints_of, bounds_of, is_headed, is_laid_out, bound_at, bounds, bound_refusal, refusal, Accepted, read_file, given_refusal, read_given};
-ghost use Rattle.file.specs.Code.{Laid, Holds};
+ghost use Rattle.file.specs.Code.{Laid, Holds, header_refusal};
 ghost use Rattle.file.specs.Answer.{answered};
 
 use constraint::Records;
@@ -60,52 +60,64 @@ fn is_laid_out(file: &[u8]) -> bool
         & (size == end)
 }
 
-// ---- the counts and the bodies of a file that is laid out
+// ---- the bodies of a file
 
-fn node_count(file: &[u8]) -> usize
-    requires { 32 ≤ length file.now }
-    ensures { result ≡ node_count file.now }
-{
-    record::read_u32(file, 12) as usize
+// A file that is laid out as its header says.
+#[derive(Clone, Copy)]
+struct House<'a> {
+    file: &'a [u8],
+    ghost laid: { Laid file.now },
 }
 
-fn constraint_count(file: &[u8]) -> usize
-    requires { 32 ≤ length file.now }
-    ensures { result ≡ constraint_count file.now }
-{
-    record::read_u32(file, 20) as usize
-}
+impl<'a> House<'a> {
+    // 1, 2.
+    #[tactic(auto, using(crate::specs::FileLaws::headed_long), unfolding(crate::specs::Code::header_refusal))]
+    fn new(file: &'a [u8]) -> Result<House<'a>, Refusal>
+        ensures refusal { refusal_of result ≡ header_refusal file.now }
+        ensures house { IfOk result (λ h. h.file.now ≡ file.now) }
+    {
+        if !is_headed(file) {
+            return Err(Refusal::Header);
+        }
+        if !is_laid_out(file) {
+            return Err(Refusal::Counts);
+        }
+        Ok(House { file })
+    }
 
-fn bound_count(file: &[u8]) -> usize
-    requires { 32 ≤ length file.now }
-    ensures { result ≡ bound_count file.now }
-{
-    record::read_u32(file, 28) as usize
-}
+    fn node_count(self) -> usize
+        ensures { result ≡ node_count self.entry.file.now }
+    {
+        record::read_u32(self.file, 12) as usize
+    }
 
-fn nodes_of(file: &[u8]) -> &[u8]
-    requires { Laid file.now }
-    ensures { result.now ≡ nodes_of file.now }
-{
-    let to = 32 + 16 * node_count(file);
-    &file[32..to]
-}
+    fn constraint_count(self) -> usize
+        ensures { result ≡ constraint_count self.entry.file.now }
+    {
+        record::read_u32(self.file, 20) as usize
+    }
 
-fn constraints_of(file: &[u8]) -> &[u8]
-    requires { Laid file.now }
-    ensures { result.now ≡ constraints_of file.now }
-{
-    let from = 32 + 16 * node_count(file);
-    let to = from + 24 * constraint_count(file);
-    &file[from..to]
-}
+    fn nodes(self) -> &'a [u8]
+        ensures { result.now ≡ nodes_of self.entry.file.now }
+    {
+        let to = 32 + 16 * self.node_count();
+        &self.file[32..to]
+    }
 
-fn bounds_of(file: &[u8]) -> &[u8]
-    requires { Laid file.now }
-    ensures { result.now ≡ bounds_of file.now }
-{
-    let from = 32 + 16 * node_count(file) + 24 * constraint_count(file);
-    &file[from..]
+    fn constraints(self) -> &'a [u8]
+        ensures { result.now ≡ constraints_of self.entry.file.now }
+    {
+        let from = 32 + 16 * self.node_count();
+        let to = from + 24 * self.constraint_count();
+        &self.file[from..to]
+    }
+
+    fn bounds(self) -> &'a [u8]
+        ensures { result.now ≡ bounds_of self.entry.file.now }
+    {
+        let from = 32 + 16 * self.node_count() + 24 * self.constraint_count();
+        &self.file[from..]
+    }
 }
 
 // Bound k, read with no test.
@@ -156,14 +168,9 @@ pub fn read(file: &[u8]) -> Result<Problem<'_>, Refusal>
     ensures refusal { refusal_of result ≡ refusal file.now }
     ensures problem { IfOk result (λ p. read_file file.now ≡ Accepted (the_constraint p.records) (intervals_of p.bounds)) }
 {
-    if !is_headed(file) {
-        return Err(Refusal::Header);
-    }
-    if !is_laid_out(file) {
-        return Err(Refusal::Counts);
-    }
-    let records = read_records(nodes_of(file), constraints_of(file))?;
-    let bounds = read_bounds(bounds_of(file))?;
+    let house = House::new(file)?;
+    let records = read_records(house.nodes(), house.constraints())?;
+    let bounds = read_bounds(house.bounds())?;
     Ok(Problem { records, bounds })
 }
 

@@ -9,29 +9,27 @@ ghost use Rattle.std.specs.Prelude.{◌≡◌, [], length};
 ghost use Rattle.settings.specs.Settings.{usual};
 ghost use Rattle.interval.specs.Views.{intervals_of};
 ghost use Rattle.constraint.specs.Constraint.{num_vars};
-ghost use Rattle.constraint.specs.Starts.{NoLarger};
 ghost use Rattle.constraint.specs.Views.{the_constraint};
 ghost use Rattle.point.specs.Check.{check};
 ghost use Rattle.nra.specs.Answers.{asked, answer_of, answered};
 ghost use Rattle.nra.specs.Calls.{answered_in, solve_file, solve_given};
 ghost use Rattle.nra.specs.Solver.{begin_empty, solve as solve_of};
-ghost use Rattle.record.specs.Views.{old};
 
 pub use answer::{Solved, Stop};
 use file::Problem;
 use halving::Task;
 use interval::{Domain, Point};
+use point::stack::Stack;
 use record::Refusal;
 
 // ---- an accepted problem
 
 // Where there is no variable: whether the empty point passes.
-fn solve_empty(task: &Task, order: &mut [u16]) -> Solved
-    requires { NoLarger task.now.records.nodes.now (length order.old) }
+fn solve_empty(task: &Task, stack: &mut Stack) -> Solved
     ensures { answer_of result ≡ begin_empty (check task.now.settings [] (the_constraint task.now.records)) }
 {
     let point = Point::zeros(0);
-    if task.passes(&point, order) {
+    if task.passes(&point, stack) {
         return Solved::Assignment {
             point,
             exact: true,
@@ -46,18 +44,17 @@ fn solve_empty(task: &Task, order: &mut [u16]) -> Solved
 }
 
 // In these bounds, of n variables.
-fn solve_in(task: &Task, bounds: &Domain, n: usize, order: &mut [u16]) -> Solved
-    requires vars { n ≡ num_vars (the_constraint task.now.records) }
-    requires room { NoLarger task.now.records.nodes.now (length order.old) }
+fn solve_in(task: &Task, bounds: &Domain, n: usize, stack: &mut Stack) -> Solved
+    requires { n ≡ num_vars (the_constraint task.now.records) }
     ensures { answer_of result ≡ solve_of task.now.settings (asked task.now) (intervals_of bounds.now) task.now.limit }
 {
     if n == 0 {
-        return solve_empty(task, order);
+        return solve_empty(task, stack);
     }
-    task.run(bounds.starting(n), order)
+    task.run(bounds.starting(n), stack)
 }
 
-// Where there are places for a point: else 10. A short order is quicker to clear.
+// Where there are places for a point: else 10.
 fn solve_task(task: &Task, bounds: &Domain, room: usize) -> Result<Solved, Refusal>
     ensures { answered result ≡ answered_in task.now.settings (asked task.now) (intervals_of bounds.now) task.now.limit room }
 {
@@ -65,10 +62,7 @@ fn solve_task(task: &Task, bounds: &Domain, room: usize) -> Result<Solved, Refus
     if room < n {
         return Err(Refusal::Room);
     }
-    if task.records.largest <= 64 {
-        return Ok(solve_in(task, bounds, n, &mut [0; 64]));
-    }
-    Ok(solve_in(task, bounds, n, &mut [0; 4096]))
+    Ok(solve_in(task, bounds, n, &mut Stack::new()))
 }
 
 // ---- what the exported calls call
