@@ -2,6 +2,7 @@
 #![tactic(auto)]
 
 mod records;
+mod shape;
 mod stack;
 
 ghost use Rattle.std.specs.Prelude.{◌≡◌, ◌+◌, ◌*◌, ◌^◌, ◌≤◌, ◌<◌, ◌++◌, [], ◌∷◌, Ok, Err, length};
@@ -15,11 +16,11 @@ ghost use Rattle.record.specs.Views.{old, final};
 ghost use Rattle.constraint.specs.Records.{record_at, is_record, is_ranged, takes};
 ghost use Rattle.constraint.specs.Encoding.{record_bytes};
 ghost use Rattle.constraint.specs.Comparison.{compared};
-ghost use Rattle.constraint.specs.Code.{kind_number, binds, own_vars, Named, Writable, Puts, words_bytes};
+ghost use Rattle.constraint.specs.Code.{kind_number, binds, Writable, Puts, words_bytes};
 
 use record::Refusal;
 pub use records::Records;
-use tree::EmlTree;
+pub use shape::{EmlConstraint, Operands, Shape};
 
 // How an atom compares its tree's value with zero, in the order of document 01's kinds, 0 to 5.
 #[derive(Clone, Copy)]
@@ -193,18 +194,6 @@ fn quantifier_of(r: Record) -> usize
     match r {
         Record::ForAll(_, _, _) | Record::Exists(_, _, _) => 1,
         Record::Atom(_, _) | Record::Not | Record::And(_) | Record::Or(_) => 0,
-    }
-}
-
-// What a record names itself: an atom's variables, or the quantified one.
-fn own_vars(nodes: &[u8], r: Record) -> usize
-    requires { Named nodes.now r }
-    ensures { result ≡ own_vars nodes.now r }
-{
-    match r {
-        Record::Atom(_, root) => EmlTree { nodes, root }.num_vars(),
-        Record::ForAll(v, _, _) | Record::Exists(v, _, _) => v + 1,
-        Record::Not | Record::And(_) | Record::Or(_) => 0,
     }
 }
 

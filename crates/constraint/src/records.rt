@@ -8,7 +8,7 @@ ghost use Rattle.constraint.specs.Starts.{Ready};
 ghost use Rattle.constraint.specs.Code.{binds, greatest, depths, quantified, starts};
 
 use crate::stack::{Finished, Stack};
-use crate::{Record, is_ranged, is_record, own_vars, quantifier_of, record_in, taken_by};
+use crate::{EmlConstraint, Record, is_ranged, is_record, quantifier_of, record_in, taken_by};
 use record::Refusal;
 use tree::EmlTree;
 
@@ -44,9 +44,8 @@ fn finish(k: u8, r: Record, taken: &[Finished]) -> Result<Finished, Refusal>
 }
 
 impl<'a> Records<'a> {
-    ghost use Rattle.constraint.specs.Constraint.{num_vars, num_vars_all};
     ghost use Rattle.constraint.specs.Starts.{start_at};
-    ghost use Rattle.constraint.specs.Views.{constraint_of, constraints_before, Taken};
+    ghost use Rattle.constraint.specs.Views.{the_constraint, meaning};
     ghost use Rattle.tree.specs.Nodes.{tree_at};
     ghost use Rattle.tree.specs.Views.{the_tree};
 
@@ -87,11 +86,14 @@ impl<'a> Records<'a> {
         })
     }
 
-    // The last record: its constraint is the one that is left.
-    pub fn root(&self) -> usize
-        ensures { result + 1 ≡ self.now.count }
+    // The one that is left: the last record finishes it.
+    pub fn constraint(&self) -> EmlConstraint
+        ensures { meaning result ≡ the_constraint self.now }
     {
-        self.count - 1
+        EmlConstraint {
+            records: self,
+            root: self.count - 1,
+        }
     }
 
     // The first record of constraint k.
@@ -111,30 +113,5 @@ impl<'a> Records<'a> {
             nodes: self.nodes,
             root: i,
         }
-    }
-
-    // The number of variables of constraint k.
-    #[cycle(num_vars_num_vars_all)]
-    pub fn num_vars(&self, k: usize) -> usize
-        requires { k < self.now.count }
-        ensures { result ≡ num_vars (constraint_of self.now k) }
-    {
-        let r = record_in(self.constraints, k);
-        let taken = self.num_vars_all(taken_by(r), k);
-        taken.max(own_vars(self.nodes, r))
-    }
-
-    // The most of the last m constraints that are finished before record end.
-    #[cycle(num_vars_num_vars_all)]
-    fn num_vars_all(&self, m: usize, end: usize) -> usize
-        requires { Taken self.now m end }
-        ensures { result ≡ num_vars_all (constraints_before self.now m end) }
-    {
-        if m == 0 {
-            return 0;
-        }
-        let last = end - 1;
-        let before = self.num_vars_all(m - 1, self.start(last));
-        before.max(self.num_vars(last))
     }
 }
