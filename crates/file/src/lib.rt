@@ -193,7 +193,7 @@ pub fn num_vars(file: &[u8]) -> Result<u64, Refusal>
     ensures { numbered result ≡ answered num_vars (read_file file.now) }
 {
     let problem = read(file)?;
-    Ok(vars_of(&problem.records))
+    Ok(problem.records.constraint().num_vars() as u64)
 }
 
 // The same of records.
@@ -201,11 +201,5 @@ pub fn num_vars_given(nodes: &[u8], constraints: &[u8]) -> Result<u64, Refusal>
     ensures { numbered result ≡ answered num_vars (read_given nodes.now constraints.now) }
 {
     let records = read_given(nodes, constraints)?;
-    Ok(vars_of(&records))
-}
-
-fn vars_of(records: &Records) -> u64
-    ensures { result ≡ num_vars (the_constraint records.now) }
-{
-    records.num_vars(records.root()) as u64
+    Ok(records.constraint().num_vars() as u64)
 }

@@ -1,4 +1,3 @@
 mod Threshold
 mod Machine
-mod Measuring
 mod Answers

@@ -76,9 +76,8 @@ fn answer<M: Measure>(nodes: &[u8], constraints: &[u8], point: &[f64]) -> Result
     ensures { numbered result ≡ answer_of (M.measure usual point.now) nodes.now constraints.now point.now }
 {
     let (records, point) = test_point(nodes, constraints, point)?;
-    let root = records.root();
-    let settings = settings::usual();
-    Ok(helpers::measured(&records, root, settings, &point, &mut Stack::new()))
+    let c = records.constraint();
+    Ok(helpers::measured(c, settings::usual(), &point, &mut Stack::new()))
 }
 
 // Whether the point passes the check of the constraint.
