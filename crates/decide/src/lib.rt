@@ -38,6 +38,7 @@ impl From<Verdict> for u8 {
 }
 
 // The records' refusal, then 9 for over 16 variables or an unsound range, then 10 for fewer places than variables.
+#[tactic(auto, unfolding(crate::specs::Deciding::later_refusal, crate::specs::Deciding::range_refusal))]
 fn asked<'a>(
     nodes: &'a [u8],
     constraints: &'a [u8],
@@ -66,6 +67,7 @@ fn asked<'a>(
 }
 
 // Whether the constraint holds for every value of variable `var` in [lo, hi]. `room` is how many places the caller has for a point.
+#[tactic(auto, using(crate::proofs::Ways::calls), unfolding(crate::specs::Deciding::decide_forall_given))]
 pub fn decide_forall(
     nodes: &[u8],
     constraints: &[u8],
@@ -83,6 +85,7 @@ pub fn decide_forall(
 }
 
 // Whether it holds for some value.
+#[tactic(auto, using(crate::proofs::Ways::calls), unfolding(crate::specs::Deciding::decide_exists_given))]
 pub fn decide_exists(
     nodes: &[u8],
     constraints: &[u8],

@@ -1,4 +1,6 @@
 // What a decision asks: of the constraint that the records leave, about variable `var` of `count` in its range.
+#![tactic(auto, using(point::specs::Room::accepted_fits), unfolding(crate::specs::Deciding::point_at, crate::specs::Deciding::boxes_at, crate::specs::Deciding::forall_samples, crate::specs::Deciding::exists_samples, number::specs::Computing::computing))]
+
 ghost use Rattle.std.specs.Prelude.{◌≡◌, ◌≤◌};
 
 use super::Verdict;
@@ -61,7 +63,6 @@ impl<'a> Question<'a> {
     }
 
     // Whether the check passes at x.
-    #[tactic(auto, using(point::specs::Room::accepted_fits))]
     fn passes(&self, x: f64) -> bool
         ensures { result ≡ passes_at self.now x }
     {
