@@ -28,8 +28,8 @@ impl<'a> Task<'a> {
     ghost use Rattle.nra.specs.Solver.{distance_at, halved};
     ghost use Rattle.record.specs.Views.{old};
 
-    #[tactic(auto, unfolding(crate::specs::Calls::limit_refusal))]
     // 8 for a limit above 1,000,000 or a NaN tolerance.
+    #[tactic(auto, unfolding(crate::specs::Calls::limit_refusal))]
     pub fn new(records: Records<'a>, limit: usize, tolerance: f64) -> Result<Task<'a>, Refusal>
         ensures refusal { refusal_of result ≡ limit_refusal limit tolerance }
         ensures task { IfOk result (Asks (the_constraint records.entry) limit tolerance) }
@@ -74,6 +74,7 @@ impl<'a> Task<'a> {
     }
 
     // The last widest box is halved: its lower half stays only if the residual there is strictly smaller.
+    #[tactic(auto, using(crate::proofs::Steps::one_changed), unfolding(crate::specs::Solver::halved, crate::specs::Solver::distance, number::specs::Computing::computing))]
     pub fn halved(&self, boxes: Domain, order: &mut [u16]) -> Domain
         requires some { 0 < boxes.count }
         requires room { NoLarger self.now.records.nodes.now (length order.old) }

@@ -1,4 +1,6 @@
 // A run (document 01; nra.rs): all before the first halving, a halving with all that follows it, and many of them.
+#![tactic(auto, using(crate::proofs::Steps::tried_failed), unfolding(crate::specs::Solver::begin_in, crate::specs::Solver::begin_narrowed, crate::specs::Solver::begin_checked, crate::specs::Solver::settle_in, crate::specs::Solver::settle_narrowed, crate::specs::Solver::settle_checked, crate::specs::Solver::halve, crate::specs::Solver::distance, crate::specs::Solver::run, crate::specs::Solver::finish, crate::specs::Answers::tried, number::specs::Computing::computing))]
+
 ghost use Rattle.std.specs.Prelude.{◌≡◌, ◌+◌, ◌<◌, ◌≤◌, length};
 
 use super::answer::{Solved, Stop};
@@ -99,6 +101,7 @@ impl<'a> Task<'a> {
     }
 
     // Halves until the run breaks off or has made as many halvings as its limit.
+    #[tactic(auto, using(crate::proofs::Steps::run_steps))]
     pub fn steps(&self, start: Domain, order: &mut [u16]) -> ControlFlow<Solved, State>
         requires some { 0 < start.count }
         requires room { NoLarger self.now.records.nodes.now (length order.old) }
