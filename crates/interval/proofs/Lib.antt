@@ -1,6 +1,6 @@
 -- Laws that several proofs cite.
-mod Floats
-mod Points
-mod Loops
-mod BoxRead
-mod Exits
+pub mod Floats
+pub mod Points
+pub mod Loops
+pub mod BoxRead
+pub mod Exits

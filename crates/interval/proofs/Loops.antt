@@ -8,13 +8,13 @@ use native.Mathlib.Numerals.{add-one}
 use native.Mathlib.Omega.{arith}
 use lib.Ieee.{Float, nan}
 use lib.ListN.{length, get_or, set, take, drop, replicate, drop_of_length-le}
-use lib.Seq.{drop-cons, take_all, paste}
-use Rattle.std.proofs.lemmas.List.{take_more, take_more_set, get_or-map}
+use lib.Seq.{drop-cons, take_all, paste, take-set-lt}
+use Rattle.std.proofs.lemmas.List.{take-replicate, take_more, take_more_set, get_or-map}
 use Rattle.std.proofs.lemmas.List.Edits.{paste_more}
 use Rattle.number.specs.Notation.{when◌then◌else◌, ◌≺◌}
 use Rattle.interval.specs.Interval.{width, midpoint}
 use Rattle.interval.specs.Boxes.{missing, starting, midpoints, widest_from, widest, padded}
-use Rattle.interval.specs.BoxLaws.{midpoints_length, padded_more}
+use Rattle.interval.specs.BoxLaws.{midpoints_length, padded_more, zeros_blank, padded_places, padded_blank, set_blank}
 use Rattle.interval.specs.declared.Interval.{Interval}
 
 -- ---- a list that is filled from another
@@ -43,6 +43,12 @@ started (suc n) (suc m) k [] h e =
     rw z (ap (λ (r : List Interval). missing ∷ r) (started n m 0 [] (le_of_suc-le-suc h) (omega arith)))
 started (suc n) (suc m) zero (b ∷ bounds) h e = absurd (omega arith)
 started (suc n) (suc m) (suc k) (b ∷ bounds) h e = ap (λ (r : List Interval). b ∷ r) (started n m k bounds (le_of_suc-le-suc h) (omega arith))
+
+pub started_16 : (n k : ℕ) (bounds : List Interval) → n ≤ 16 → k ≡ min n (length bounds) → take n (take k bounds ++ drop k (replicate 16 missing)) ≡ starting n bounds
+started_16 n k bounds h e = started n 16 k bounds h e
+
+pub take_16 : {A : Type 0} (n : ℕ) (x : A) → n ≤ 16 → take n (replicate 16 x) ≡ replicate n x
+take_16 n x h = take-replicate n 16 x h
 
 -- ---- the midpoints
 module _ (b : List Interval) (i : ℕ) (values : List Float) where
@@ -87,3 +93,9 @@ pub widest_start : (b : List Interval) (d : Interval) → 0 < length b → wides
 unfolding widest
 widest_start [] d h = absurd (omega arith)
 widest_start (x ∷ xs) d h = refl
+
+pub ruleset widest_steps = (widest_start, widest_keep, widest_take, widest_done)
+
+pub ruleset zeros = (take_16, zeros_blank)
+
+pub ruleset places = (take_16, take-set-lt, padded_places, padded_blank, set_blank)

@@ -15,6 +15,7 @@ pub const MISSING: Interval = Interval {
 };
 
 // The box of variable i.
+#[tactic(auto, using(crate::proofs::BoxRead::read_or), unfolding(crate::specs::Boxes::missing, number::specs::Computing::computing))]
 pub fn box_at(boxes: &[Interval], i: usize) -> Interval
     ensures { result ≡ get_or boxes.now i missing }
 {
@@ -41,6 +42,7 @@ impl Domain {
     ghost use Rattle.interval.specs.Views.{intervals_of, values_of};
 
     // The first n of the bounds, a missing one being [-10, 10].
+    #[tactic(auto, using(crate::proofs::Loops::started_16), unfolding(crate::specs::Boxes::missing, number::specs::Computing::computing))]
     pub fn new(bounds: &[Interval], n: usize) -> Domain
         requires { n ≤ 16 }
         ensures { (result.count ≡ n) × (intervals_of result ≡ starting n bounds.now) }
@@ -52,6 +54,7 @@ impl Domain {
     }
 
     // n boxes, each the same.
+    #[tactic(auto, using(crate::proofs::Loops::places))]
     pub fn filled(v: Interval, n: usize) -> Domain
         requires { n ≤ 16 }
         ensures { (result.count ≡ n) × (intervals_of result ≡ replicate n v) }
@@ -63,6 +66,7 @@ impl Domain {
     }
 
     // With v as box i. A box beyond the list alters nothing in it.
+    #[tactic(auto, using(crate::proofs::Loops::places))]
     pub fn with(self, i: usize, v: Interval) -> Domain
         ensures { (result.count ≡ self.count) × (intervals_of result ≡ set (intervals_of self) i v) }
     {
@@ -75,6 +79,7 @@ impl Domain {
     }
 
     // The boxes that a call takes: at most 16, and each box sound; else 9.
+    #[tactic(auto, using(crate::specs::BoxLaws::starting_all))]
     pub fn of_sound(boxes: &[Interval]) -> Result<Domain, Refusal>
         ensures refusal { refusal_of result ≡ (9 unless leb (length boxes.now) 16 && all_sound boxes.now) }
         ensures value { IfOk result (λ d. (d.count ≡ length boxes.now) × (intervals_of d ≡ boxes.now)) }
@@ -100,7 +105,7 @@ impl Domain {
     }
 
     // The midpoint of each box.
-    #[tactic(auto, unfolding(crate::specs::Boxes::midpoints, crate::specs::Boxes::padded))]
+    #[tactic(auto, using(crate::proofs::Loops::midpoints_more), unfolding(crate::specs::Boxes::midpoints, crate::specs::Boxes::padded, number::specs::Computing::computing))]
     pub fn midpoints(&self) -> Point
         ensures { (result.count ≡ self.now.count) × (values_of result ≡ midpoints (intervals_of self.now)) }
     {
@@ -123,6 +128,7 @@ impl Domain {
     }
 
     // The number of the last widest box.
+    #[tactic(auto, using(crate::proofs::Loops::widest_steps))]
     pub fn widest(&self) -> usize
         requires { 0 < self.now.count }
         ensures { (result < self.now.count) × (result ≡ widest (intervals_of self.now)) }

@@ -41,6 +41,7 @@ impl Interval {
         Self::new(v, v)
     }
 
+    #[tactic(auto, using(number::specs::Order::nan_test), unfolding(crate::specs::Interval::is_empty))]
     pub fn is_empty(self) -> bool
         ensures { result ≡ is_empty self }
     {
@@ -61,6 +62,7 @@ impl Interval {
         self.hi - self.lo
     }
 
+    #[tactic(auto, unfolding(crate::specs::Interval::midpoint, number::specs::Computing::computing))]
     pub fn midpoint(self) -> f64
         ensures { result ≡ midpoint self }
     {
@@ -106,6 +108,7 @@ impl Interval {
     }
 
     // The ends of a point are computed once.
+    #[tactic(auto, using(crate::proofs::Points::point_exp), unfolding(crate::specs::Interval::exp))]
     pub fn exp(self) -> Self
         ensures { result ≡ exp self }
     {
@@ -116,12 +119,14 @@ impl Interval {
     }
 
     // Whether ln is real on it.
+    #[tactic(auto, using(crate::proofs::Floats::finite_test), unfolding(crate::specs::Interval::has_ln, number::specs::Computing::computing))]
     pub fn has_ln(self) -> bool
         ensures { result ≡ has_ln self }
     {
         !((self.lo <= 0.0) | !self.lo.is_finite() | !self.hi.is_finite())
     }
 
+    #[tactic(auto, using(crate::proofs::Points::point_ln), unfolding(crate::specs::Interval::ln, number::specs::Computing::computing))]
     pub fn ln(self) -> Self
         ensures { result ≡ ln self }
     {

@@ -12,10 +12,11 @@ pub struct Point {
     pub ghost blank: { values ≡ padded (take count values) },
 }
 
-#[tactic(auto, unfolding(crate::specs::Boxes::padded))]
+#[tactic(auto, using(crate::proofs::Loops::places), unfolding(crate::specs::Boxes::padded, number::specs::Computing::computing))]
 impl Point {
     ghost use Rattle.interval.specs.Views.{values_of};
 
+    #[tactic(auto, using(crate::proofs::Loops::zeros), unfolding(number::specs::Computing::computing))]
     pub fn zeros(n: usize) -> Point
         requires { n ≤ 16 }
         ensures { (result.count ≡ n) × (values_of result ≡ replicate n (whole 0)) }
