@@ -3,4 +3,3 @@ pub mod Floats
 pub mod Points
 pub mod Loops
 pub mod BoxRead
-pub mod Exits

@@ -1,7 +1,7 @@
 -- The steps of the loops over boxes, over plain values. Assumes nothing.
 use Prim.Native.Nat.{ℕ, zero, suc, ◌+◌, ◌<◌, ◌≤◌, min}
 use mathlib.Core.Path.{◌≡◌, refl, sym, ap, ap₂, ◌∙◌}
-use mathlib.Core.Bool.{Bool, true, false}
+use mathlib.Core.Bool.{Bool, true, false, ◌&&◌}
 use mathlib.Core.List.{List, [], ◌∷◌, ◌++◌}
 use native.Mathlib.Nat.{le_of_suc-le-suc}
 use native.Mathlib.Numerals.{add-one}
@@ -12,18 +12,25 @@ use lib.Seq.{drop-cons, take_all, paste, take-set-lt}
 use Rattle.std.proofs.lemmas.List.{take-replicate, take_more, take_more_set, get_or-map}
 use Rattle.std.proofs.lemmas.List.Edits.{paste_more}
 use Rattle.number.specs.Notation.{when◌then◌else◌, ◌≺◌}
-use Rattle.interval.specs.Interval.{width, midpoint}
+use Rattle.interval.specs.Interval.{◌‥◌, width, midpoint}
 use Rattle.interval.specs.Boxes.{missing, starting, midpoints, widest_from, widest, padded}
-use Rattle.interval.specs.BoxLaws.{midpoints_length, padded_more, zeros_blank, padded_places, padded_blank, set_blank}
+use lib.Dec.{leb, eqb}
+use Rattle.interval.specs.Boxes.{intervals}
+use Rattle.interval.specs.BoxLaws.{midpoints_length, padded_more, intervals_length, intervals_at, ends_paired, lows_length, highs_length, zeros_blank, padded_places, padded_blank, set_blank}
 use Rattle.interval.specs.declared.Interval.{Interval}
 
 -- ---- a list that is filled from another
-module _ {A : Type 0} (s l : List A) (i : ℕ) (d : A) where
-  pub placed_more : i < length s → i < length l → take i l ≡ take i s → {v : A} → v ≡ get_or s i d → take (i + 1) (set l i v) ≡ take (i + 1) s
-  placed_more h k e {v} w = take_more_set l i v k ∙ ap (λ (t : List A). t ++ v ∷ []) e ∙ ap (λ (x : A). take i s ++ x ∷ []) w ∙ sym (take_more s i d h)
+-- the boxes of two lists of ends, the first i of which stand in l
+module _ (lo hi : List Float) (paired : (eqb (length lo) (length hi) && leb (length lo) 16) ≡ true) (l : List Interval) (i : ℕ) (same : take i l ≡ take i (intervals lo hi)) where
+  pub placed_more : i < length lo → length l ≡ 16 → {v : Interval} → v ≡ (get_or lo i nan ‥ get_or hi i nan) → take (i + 1) (set l i v) ≡ take (i + 1) (intervals lo hi)
+  placed_more h k {v} w =
+      let p = ends_paired lo hi paired in
+      take_more_set l i v (omega (arith, p.1))
+      ∙ ap₂ (λ (t : List Interval) (x : Interval). t ++ x ∷ []) same (w ∙ intervals_at lo hi i v p.0 h)
+      ∙ sym (take_more (intervals lo hi) i v (omega (arith, intervals_length lo hi p.0)))
 
-  pub placed_all : {n : ℕ} → i ≡ n → length s ≡ n → take i l ≡ take i s → take n l ≡ s
-  placed_all {n} h k e = ap (λ (m : ℕ). take m l) (sym h) ∙ e ∙ take_all i s (omega arith)
+  pub placed_all : {n : ℕ} → i ≡ n → n ≡ length lo → take n l ≡ intervals lo hi
+  placed_all {n} h k = ap (λ (m : ℕ). take m l) (sym h) ∙ same ∙ take_all i (intervals lo hi) (omega (arith, intervals_length lo hi (ends_paired lo hi paired).0))
 
 -- the first i of s stand in l, which was t
 module _ (t s l : List Float) (i : ℕ) where
@@ -99,3 +106,5 @@ pub ruleset widest_steps = (widest_start, widest_keep, widest_take, widest_done)
 pub ruleset zeros = (take_16, zeros_blank)
 
 pub ruleset places = (take_16, take-set-lt, padded_places, padded_blank, set_blank)
+
+pub ruleset pasting = (pasted_more, lows_length, highs_length, get_or-map)

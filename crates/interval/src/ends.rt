@@ -15,7 +15,7 @@ use record::Refusal;
 
 impl Domain {
     // The boxes of as many ends of each kind, at most 16; else 9.
-    #[tactic(auto, unfolding(crate::specs::Boxes::are_paired))]
+    #[tactic(auto, using(crate::proofs::Loops::placed_all), unfolding(crate::specs::Boxes::are_paired))]
     pub fn of_ends(lo: &[f64], hi: &[f64]) -> Result<Domain, Refusal>
         ensures refusal { refusal_of result ≡ (9 unless are_paired lo.now hi.now) }
         ensures value { IfOk result (λ d. (d.count ≡ length lo.now) × (intervals_of d ≡ intervals lo.now hi.now)) }
@@ -35,6 +35,7 @@ impl Domain {
     }
 
     // And each of them sound.
+    #[tactic(auto, using(record::specs::RefusalLaws::never_none), unfolding(crate::specs::Boxes::are_boxes))]
     pub fn of_sound_ends(lo: &[f64], hi: &[f64]) -> Result<Domain, Refusal>
         ensures refusal { refusal_of result ≡ (9 unless are_boxes lo.now hi.now) }
         ensures value { IfOk result (λ d. (d.count ≡ length lo.now) × (intervals_of d ≡ intervals lo.now hi.now)) }
@@ -47,6 +48,7 @@ impl Domain {
     }
 
     // Writes the ends to the first places of two lists.
+    #[tactic(auto, using(crate::proofs::Loops::pasting))]
     pub fn write_ends(&self, lo: &mut [f64], hi: &mut [f64])
         requires { (self.now.count ≤ length lo.old) × (self.now.count ≤ length hi.old) }
         ensures lo_value { final lo ≡ paste (old lo) 0 (lows (intervals_of self.now)) self.now.count }
@@ -62,6 +64,7 @@ impl Domain {
 // ---- what the exported calls call
 
 // IntervalDomain::new. A refusal writes nothing.
+#[tactic(auto, using(record::specs::RefusalLaws::never_none), unfolding(crate::specs::Domain::domain_new, crate::specs::Domain::domain_refusal))]
 pub fn domain_new(
     lo: &[f64],
     hi: &[f64],
@@ -83,6 +86,7 @@ pub fn domain_new(
 }
 
 // IntervalDomain::is_empty.
+#[tactic(auto, using(record::specs::RefusalLaws::refuses), unfolding(crate::specs::Domain::domain_is_empty))]
 pub fn domain_is_empty(lo: &[f64], hi: &[f64]) -> Result<bool, Refusal>
     ensures { numbered result ≡ domain_is_empty lo.now hi.now }
 {
