@@ -1,5 +1,4 @@
 -- Laws that several proofs cite.
-pub mod Floats
-pub mod Points
-pub mod Loops
-pub mod BoxRead
+mod Floats
+mod Points
+mod Loops

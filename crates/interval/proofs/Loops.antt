@@ -1,7 +1,7 @@
 -- The steps of the loops over boxes, over plain values. Assumes nothing.
 use Prim.Native.Nat.{ℕ, zero, suc, ◌+◌, ◌<◌, ◌≤◌, min}
 use mathlib.Core.Path.{◌≡◌, refl, sym, ap, ap₂, ◌∙◌}
-use mathlib.Core.Bool.{Bool, true, false, ◌&&◌}
+use mathlib.Core.Bool.{true, ◌&&◌}
 use mathlib.Core.List.{List, [], ◌∷◌, ◌++◌}
 use native.Mathlib.Nat.{le_of_suc-le-suc}
 use native.Mathlib.Numerals.{add-one}
@@ -11,9 +11,8 @@ use lib.ListN.{length, get_or, set, take, drop, replicate, drop_of_length-le}
 use lib.Seq.{drop-cons, take_all, paste, take-set-lt}
 use Rattle.std.proofs.lemmas.List.{take-replicate, take_more, take_more_set, get_or-map}
 use Rattle.std.proofs.lemmas.List.Edits.{paste_more}
-use Rattle.number.specs.Notation.{when◌then◌else◌, ◌≺◌}
-use Rattle.interval.specs.Interval.{◌‥◌, width, midpoint}
-use Rattle.interval.specs.Boxes.{missing, starting, midpoints, widest_from, widest, padded}
+use Rattle.interval.specs.Interval.{◌‥◌}
+use Rattle.interval.specs.Boxes.{missing, starting}
 use lib.Dec.{leb, eqb}
 use Rattle.interval.specs.Boxes.{intervals}
 use Rattle.interval.specs.BoxLaws.{midpoints_length, padded_more, intervals_length, intervals_at, ends_paired, lows_length, highs_length, zeros_blank, padded_places, padded_blank, set_blank}
@@ -57,54 +56,13 @@ started_16 n k bounds h e = started n 16 k bounds h e
 pub take_16 : {A : Type 0} (n : ℕ) (x : A) → n ≤ 16 → take n (replicate 16 x) ≡ replicate n x
 take_16 n x h = take-replicate n 16 x h
 
--- ---- the midpoints
-module _ (b : List Interval) (i : ℕ) (values : List Float) where
-  pub midpoints_more : i < length b → length b ≤ 16 → values ≡ padded (take i (midpoints b)) → (d : Interval) {x : Float} → x ≡ midpoint (get_or b i d)
-      → set values i x ≡ padded (take (i + 1) (midpoints b))
-  unfolding midpoints
-  midpoints_more h few e d {x} w =
-      ap (λ (l : List Float). set l i x) e ∙ padded_more (midpoints b) i x (omega (arith, midpoints_length b)) (omega (arith, midpoints_length b))
-      (w ∙ sym (get_or-map midpoint b i d nan h))
+-- ---- what a loop has left of a list, and what it has made
+pub ruleset shorter = (drop-cons, drop_of_length-le, add-one)
 
--- ---- the widest of the boxes
-module _ (b : List Interval) (i : ℕ) (d : Interval) where
-  after : i < length b → drop i b ≡ get_or b i d ∷ drop (i + 1) b
-  after h = rw (add-one i) (drop-cons b i d h)
-
-  none : length b ≤ i → drop i b ≡ []
-  none h = drop_of_length-le b {i = i} h
-
-  module _ (at : ℕ) (most : Float) {r : ℕ} (inv : widest_from at most i (drop i b) ≡ r) where
-    by_test : (k : Bool) → i < length b → (width (get_or b i d) ≺ most) ≡ k
-        → widest_from (when k then at else i) (when k then most else width (get_or b i d)) (i + 1) (drop (i + 1) b) ≡ r
-    unfolding widest_from
-    by_test k h w =
-        sym (ap (widest_from at most i) (after h)
-        ∙ ap (λ (t : Bool). widest_from (when t then at else i) (when t then most else width (get_or b i d)) (suc i) (drop (i + 1) b)) w
-        ∙ ap (λ (n : ℕ). widest_from (when k then at else i) (when k then most else width (get_or b i d)) n (drop (i + 1) b)) (sym (add-one i)))
-        ∙ inv
-
-    pub widest_keep : i < length b → (width (get_or b i d) ≺ most) ≡ true → widest_from at most (i + 1) (drop (i + 1) b) ≡ r
-    unfolding when◌then◌else◌
-    widest_keep h w = by_test true h w
-
-    pub widest_take : i < length b → (width (get_or b i d) ≺ most) ≡ false → widest_from i (width (get_or b i d)) (i + 1) (drop (i + 1) b) ≡ r
-    unfolding when◌then◌else◌
-    widest_take h w = by_test false h w
-
-    pub widest_done : length b ≤ i → at ≡ r
-    unfolding widest_from
-    widest_done h = sym (ap (widest_from at most i) (none h)) ∙ inv
-
-pub widest_start : (b : List Interval) (d : Interval) → 0 < length b → widest_from 0 (width (get_or b 0 d)) 1 (drop 1 b) ≡ widest b
-unfolding widest
-widest_start [] d h = absurd (omega arith)
-widest_start (x ∷ xs) d h = refl
-
-pub ruleset widest_steps = (widest_start, widest_keep, widest_take, widest_done)
+pub ruleset longer = (padded_more, get_or-map, midpoints_length)
 
 pub ruleset zeros = (take_16, zeros_blank)
 
 pub ruleset places = (take_16, take-set-lt, padded_places, padded_blank, set_blank)
 
-pub ruleset pasting = (pasted_more, lows_length, highs_length, get_or-map)
+pub ruleset pasted = (pasted_more, lows_length, highs_length, get_or-map)

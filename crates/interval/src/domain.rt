@@ -15,7 +15,7 @@ pub const MISSING: Interval = Interval {
 };
 
 // The box of variable i.
-#[tactic(auto, using(crate::proofs::BoxRead::read_or), unfolding(crate::specs::Boxes::missing, number::specs::Computing::computing))]
+#[tactic(auto, unfolding(crate::specs::Boxes::missing, number::specs::Computing::computing))]
 pub fn box_at(boxes: &[Interval], i: usize) -> Interval
     ensures { result ≡ get_or boxes.now i missing }
 {
@@ -105,7 +105,7 @@ impl Domain {
     }
 
     // The midpoint of each box.
-    #[tactic(auto, using(crate::proofs::Loops::midpoints_more), unfolding(crate::specs::Boxes::midpoints, crate::specs::Boxes::padded, number::specs::Computing::computing))]
+    #[tactic(auto, using(crate::proofs::Loops::longer), unfolding(crate::specs::Boxes::midpoints, crate::specs::Boxes::padded, number::specs::Computing::computing))]
     pub fn midpoints(&self) -> Point
         ensures { (result.count ≡ self.now.count) × (values_of result ≡ midpoints (intervals_of self.now)) }
     {
@@ -128,7 +128,7 @@ impl Domain {
     }
 
     // The number of the last widest box.
-    #[tactic(auto, using(crate::proofs::Loops::widest_steps))]
+    #[tactic(auto, using(crate::proofs::Loops::shorter), unfolding(crate::specs::Boxes::widest_from, crate::specs::Boxes::widest, number::specs::Computing::computing))]
     pub fn widest(&self) -> usize
         requires { 0 < self.now.count }
         ensures { (result < self.now.count) × (result ≡ widest (intervals_of self.now)) }

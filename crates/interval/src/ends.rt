@@ -48,7 +48,7 @@ impl Domain {
     }
 
     // Writes the ends to the first places of two lists.
-    #[tactic(auto, using(crate::proofs::Loops::pasting))]
+    #[tactic(auto, using(crate::proofs::Loops::pasted))]
     pub fn write_ends(&self, lo: &mut [f64], hi: &mut [f64])
         requires { (self.now.count ≤ length lo.old) × (self.now.count ≤ length hi.old) }
         ensures lo_value { final lo ≡ paste (old lo) 0 (lows (intervals_of self.now)) self.now.count }
