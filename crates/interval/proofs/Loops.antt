@@ -28,9 +28,6 @@ module _ (lo hi : List Float) (paired : (eqb (length lo) (length hi) && leb (len
       ∙ ap₂ (λ (t : List Interval) (x : Interval). t ++ x ∷ []) same (w ∙ intervals_at lo hi i v p.0 h)
       ∙ sym (take_more (intervals lo hi) i v (omega (arith, intervals_length lo hi p.0)))
 
-  pub placed_all : {n : ℕ} → i ≡ n → n ≡ length lo → take n l ≡ intervals lo hi
-  placed_all {n} h k = ap (λ (m : ℕ). take m l) (sym h) ∙ same ∙ take_all i (intervals lo hi) (omega (arith, intervals_length lo hi (ends_paired lo hi paired).0))
-
 -- the first i of s stand in l, which was t
 module _ (t s l : List Float) (i : ℕ) where
   pub pasted_more : l ≡ paste t 0 s i → i < length t → i < length s → {x : Float} → x ≡ get_or s i nan → set l i x ≡ paste t 0 s (i + 1)
@@ -64,5 +61,7 @@ pub ruleset longer = (padded_more, get_or-map, midpoints_length)
 pub ruleset zeros = (take_16, zeros_blank)
 
 pub ruleset places = (take_16, take-set-lt, padded_places, padded_blank, set_blank)
+
+pub ruleset placed = (take_all, intervals_length, ends_paired)
 
 pub ruleset pasted = (pasted_more, lows_length, highs_length, get_or-map)

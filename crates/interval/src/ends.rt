@@ -15,7 +15,7 @@ use record::Refusal;
 
 impl Domain {
     // The boxes of as many ends of each kind, at most 16; else 9.
-    #[tactic(auto, using(crate::proofs::Loops::placed_all), unfolding(crate::specs::Boxes::are_paired))]
+    #[tactic(auto, using(crate::proofs::Loops::placed), unfolding(crate::specs::Boxes::are_paired))]
     pub fn of_ends(lo: &[f64], hi: &[f64]) -> Result<Domain, Refusal>
         ensures refusal { refusal_of result ≡ (9 unless are_paired lo.now hi.now) }
         ensures value { IfOk result (λ d. (d.count ≡ length lo.now) × (intervals_of d ≡ intervals lo.now hi.now)) }
