@@ -1,5 +1,5 @@
 -- What the code's question and its answers stand for.
-use Rattle.std.specs.Prelude.{ℕ, ◌≡◌, Bool, true, false, not, List, [], Float, Result, Ok, Err}
+use Rattle.std.specs.Prelude.{ℕ, ◌≡◌, Bool, List, [], Float, Result, Ok, Err}
 use Rattle.record.specs.Refused.{number_of}
 use Rattle.record.specs.declared.refusal.Refusal.{Refusal}
 use Rattle.settings.specs.Settings.{usual}
@@ -14,18 +14,14 @@ use Rattle.decide.specs.Deciding.{QuantResult, point_at, boxes_at, decide_forall
 
 -- ---- a question: its points and boxes, the test of a sample, the decisions
 abbrev pub sample_of : Question → Float → List Float
-sample_of q x = point_at q.count q.var x
+sample_of q x = point_at q.count.n q.var x
 
 abbrev pub box_of : Question → List Interval
-box_of q = boxes_at q.count q.var q.range
+box_of q = boxes_at q.count.n q.var q.range
 
--- whether a check answers as the search wants it to: to pass, or to fail
-abbrev pub answers_as : Bool → Bool → Bool
-answers_as true passes = passes
-answers_as false passes = not passes
-
-abbrev pub answers_at : Question → Bool → Float → Bool
-answers_at q wanted x = answers_as wanted (check q.settings (sample_of q x) (the_constraint q.records))
+-- whether the check passes at a sample
+abbrev pub passes_at : Question → Float → Bool
+passes_at q x = check q.settings (sample_of q x) (the_constraint q.records)
 
 abbrev pub for_all : Question → QuantResult
 for_all q = decide_forall q.settings q.var q.range.lo q.range.hi (the_constraint q.records) q.count
@@ -51,4 +47,4 @@ pub record Asks (nodes b : List ℕ) (v : ℕ) (i : Interval) (n : ℕ) (q : Que
   pub settings_are : q.settings ≡ usual
   pub var_is : q.var ≡ v
   pub range_is : q.range ≡ i
-  pub count_is : q.count ≡ n
+  pub count_is : q.count.n ≡ n

@@ -11,7 +11,7 @@ ghost use Rattle.file.specs.File.{given_refusal};
 ghost use Rattle.decide.specs.Deciding.{verdict_number, later_refusal, decide_forall_given, decide_exists_given};
 ghost use Rattle.decide.specs.Views.{result_of, answered, Asks};
 
-use interval::{Interval, Point};
+use interval::{Count, Interval, Point};
 use question::Question;
 use record::Refusal;
 
@@ -38,6 +38,7 @@ impl From<Verdict> for u8 {
 }
 
 // The records' refusal, then 9 for over 16 variables or an unsound range, then 10 for fewer places than variables.
+#[tactic(auto, unfolding(crate::specs::Deciding::later_refusal, crate::specs::Deciding::range_refusal))]
 fn asked<'a>(
     nodes: &'a [u8],
     constraints: &'a [u8],
@@ -50,22 +51,24 @@ fn asked<'a>(
     ensures value { IfOk result (Asks nodes.now constraints.now var range num_vars) }
 {
     let records = file::read_given(nodes, constraints)?;
-    if (num_vars <= 16) & range.is_sound() {
-        if num_vars <= room {
-            return Ok(Question {
-                records,
-                settings: settings::usual(),
-                var,
-                range,
-                count: num_vars,
-            });
-        }
+    let count = Count::try_from(num_vars)?;
+    if !range.is_sound() {
+        return Err(Refusal::Boxes);
+    }
+    if room < num_vars {
         return Err(Refusal::Room);
     }
-    Err(Refusal::Boxes)
+    Ok(Question {
+        records,
+        settings: settings::usual(),
+        var,
+        range,
+        count,
+    })
 }
 
 // Whether the constraint holds for every value of variable `var` in [lo, hi]. `room` is how many places the caller has for a point.
+#[tactic(auto, using(crate::proofs::Ways::calls), unfolding(crate::specs::Deciding::decide_forall_given))]
 pub fn decide_forall(
     nodes: &[u8],
     constraints: &[u8],
@@ -83,6 +86,7 @@ pub fn decide_forall(
 }
 
 // Whether it holds for some value.
+#[tactic(auto, using(crate::proofs::Ways::calls), unfolding(crate::specs::Deciding::decide_exists_given))]
 pub fn decide_exists(
     nodes: &[u8],
     constraints: &[u8],

@@ -1,11 +1,14 @@
 // What a decision asks: of the constraint that the records leave, about variable `var` of `count` in its range.
-ghost use Rattle.std.specs.Prelude.{◌≡◌, ◌≤◌};
+#![tactic(auto, unfolding(crate::specs::Deciding::point_at, crate::specs::Deciding::boxes_at, crate::specs::Deciding::forall_samples, crate::specs::Deciding::exists_samples, number::specs::Computing::computing))]
+
+ghost use Rattle.std.specs.Prelude.{◌≡◌};
 
 use super::Verdict;
 use constraint::Records;
-use interval::{Domain, Interval, Point};
+use interval::{Count, Domain, Interval, Point};
 use narrow::{Mode, PropResult, narrow_boxes};
 use point::helpers::check_constraint;
+use point::stack::Stack;
 use settings::Settings;
 
 #[derive(Drop)]
@@ -14,16 +17,14 @@ pub struct Question<'a> {
     pub settings: Settings,
     pub var: usize,
     pub range: Interval,
-    pub count: usize,
-    pub ghost few: { count ≤ 16 },
+    pub count: Count,
 }
 
 impl<'a> Question<'a> {
-    ghost use Rattle.std.specs.List.{find};
     ghost use Rattle.interval.specs.Views.{intervals_of, values_of};
     ghost use Rattle.constraint.specs.Views.{the_constraint};
     ghost use Rattle.decide.specs.Deciding.{forall_samples, exists_samples, refutes};
-    ghost use Rattle.decide.specs.Views.{sample_of, box_of, answers_at, for_all, exists, result_of};
+    ghost use Rattle.decide.specs.Views.{sample_of, box_of, passes_at, for_all, exists, result_of};
 
     // The variable at x, every other one at 0.
     fn point_at(&self, x: f64) -> Point
@@ -61,25 +62,12 @@ impl<'a> Question<'a> {
         ]
     }
 
-    // The first sample at which the check answers as wanted.
-    fn first_sample(&self, wanted: bool, samples: &[f64]) -> Option<f64>
-        ensures { result ≡ find (answers_at self.now wanted) samples.now }
+    // Whether the check passes at x.
+    fn passes(&self, x: f64) -> bool
+        ensures { result ≡ passes_at self.now x }
     {
-        let mut order = [0u16; 4096];
-        for x in samples {
-            let point = self.point_at(*x);
-            let passes = check_constraint(
-                &self.records,
-                self.records.root(),
-                self.settings,
-                point.as_slice(),
-                &mut order,
-            );
-            if passes == wanted {
-                return Some(*x);
-            }
-        }
-        None
+        let c = self.records.constraint();
+        check_constraint(c, self.settings, &self.point_at(x), &mut Stack::new())
     }
 
     // Whether propagating the negation of the constraint meets a conflict.
@@ -103,7 +91,7 @@ impl<'a> Question<'a> {
         if self.is_refuted() {
             return Verdict::True;
         }
-        match self.first_sample(false, &self.forall_samples()) {
+        match self.forall_samples().into_iter().find(|x| !self.passes(*x)) {
             None => Verdict::Unknown,
             Some(x) => Verdict::FalseWithCounterexample(self.point_at(x)),
         }
@@ -113,7 +101,7 @@ impl<'a> Question<'a> {
     pub fn exists(&self) -> Verdict
         ensures { result_of result ≡ exists self.now }
     {
-        match self.first_sample(true, &self.exists_samples()) {
+        match self.exists_samples().into_iter().find(|x| self.passes(*x)) {
             None => Verdict::Unknown,
             Some(x) => Verdict::TrueWithWitness(self.point_at(x)),
         }

@@ -14,7 +14,7 @@ ghost use Rattle.file.specs.Code.{Laid, Holds, header_refusal};
 ghost use Rattle.file.specs.Answer.{answered};
 
 use constraint::Records;
-use interval::{Domain, Interval};
+use interval::{Count, Domain, Interval};
 use record::Refusal;
 
 // What an accepted file says.
@@ -140,9 +140,11 @@ fn read_bounds(bytes: &[u8]) -> Result<Domain, Refusal>
     ensures refusal { refusal_of result ≡ first (bound_refusal bytes.now) (length bytes.now / 16) }
     ensures value { IfOk result (λ d. intervals_of d ≡ bounds bytes.now (length bytes.now / 16)) }
 {
-    let count = bytes.len() / 16;
+    let count = Count {
+        n: bytes.len() / 16,
+    };
     let mut boxes = [Interval::point(0.0); 16];
-    for i in 0..count {
+    for i in 0..count.n {
         let b = bound_in(bytes, i);
         if !b.is_sound() {
             return Err(Refusal::Range);

@@ -2,5 +2,3 @@
 mod Floats
 mod Points
 mod Loops
-mod BoxRead
-mod Exits

@@ -1,29 +1,32 @@
 -- The steps of the loops over boxes, over plain values. Assumes nothing.
 use Prim.Native.Nat.{ℕ, zero, suc, ◌+◌, ◌<◌, ◌≤◌, min}
 use mathlib.Core.Path.{◌≡◌, refl, sym, ap, ap₂, ◌∙◌}
-use mathlib.Core.Bool.{Bool, true, false}
+use mathlib.Core.Bool.{true, ◌&&◌}
 use mathlib.Core.List.{List, [], ◌∷◌, ◌++◌}
 use native.Mathlib.Nat.{le_of_suc-le-suc}
 use native.Mathlib.Numerals.{add-one}
 use native.Mathlib.Omega.{arith}
 use lib.Ieee.{Float, nan}
 use lib.ListN.{length, get_or, set, take, drop, replicate, drop_of_length-le}
-use lib.Seq.{drop-cons, take_all, paste}
-use Rattle.std.proofs.lemmas.List.{take_more, take_more_set, get_or-map}
+use lib.Seq.{drop-cons, take_all, paste, take-set-lt}
+use Rattle.std.proofs.lemmas.List.{take-replicate, take_more, take_more_set, get_or-map}
 use Rattle.std.proofs.lemmas.List.Edits.{paste_more}
-use Rattle.number.specs.Notation.{when◌then◌else◌, ◌≺◌}
-use Rattle.interval.specs.Interval.{width, midpoint}
-use Rattle.interval.specs.Boxes.{missing, starting, midpoints, widest_from, widest, padded}
-use Rattle.interval.specs.BoxLaws.{midpoints_length, padded_more}
+use Rattle.interval.specs.Interval.{◌‥◌}
+use Rattle.interval.specs.Boxes.{missing, starting}
+use lib.Dec.{leb, eqb}
+use Rattle.interval.specs.Boxes.{intervals}
+use Rattle.interval.specs.BoxLaws.{midpoints_length, padded_more, intervals_length, intervals_at, ends_paired, lows_length, highs_length, zeros_blank, padded_places, padded_blank, set_blank}
 use Rattle.interval.specs.declared.Interval.{Interval}
 
 -- ---- a list that is filled from another
-module _ {A : Type 0} (s l : List A) (i : ℕ) (d : A) where
-  pub placed_more : i < length s → i < length l → take i l ≡ take i s → {v : A} → v ≡ get_or s i d → take (i + 1) (set l i v) ≡ take (i + 1) s
-  placed_more h k e {v} w = take_more_set l i v k ∙ ap (λ (t : List A). t ++ v ∷ []) e ∙ ap (λ (x : A). take i s ++ x ∷ []) w ∙ sym (take_more s i d h)
-
-  pub placed_all : {n : ℕ} → i ≡ n → length s ≡ n → take i l ≡ take i s → take n l ≡ s
-  placed_all {n} h k e = ap (λ (m : ℕ). take m l) (sym h) ∙ e ∙ take_all i s (omega arith)
+-- the boxes of two lists of ends, the first i of which stand in l
+module _ (lo hi : List Float) (paired : (eqb (length lo) (length hi) && leb (length lo) 16) ≡ true) (l : List Interval) (i : ℕ) (same : take i l ≡ take i (intervals lo hi)) where
+  pub placed_more : i < length lo → length l ≡ 16 → {v : Interval} → v ≡ (get_or lo i nan ‥ get_or hi i nan) → take (i + 1) (set l i v) ≡ take (i + 1) (intervals lo hi)
+  placed_more h k {v} w =
+      let p = ends_paired lo hi paired in
+      take_more_set l i v (omega (arith, p.1))
+      ∙ ap₂ (λ (t : List Interval) (x : Interval). t ++ x ∷ []) same (w ∙ intervals_at lo hi i v p.0 h)
+      ∙ sym (take_more (intervals lo hi) i v (omega (arith, intervals_length lo hi p.0)))
 
 -- the first i of s stand in l, which was t
 module _ (t s l : List Float) (i : ℕ) where
@@ -44,46 +47,21 @@ started (suc n) (suc m) k [] h e =
 started (suc n) (suc m) zero (b ∷ bounds) h e = absurd (omega arith)
 started (suc n) (suc m) (suc k) (b ∷ bounds) h e = ap (λ (r : List Interval). b ∷ r) (started n m k bounds (le_of_suc-le-suc h) (omega arith))
 
--- ---- the midpoints
-module _ (b : List Interval) (i : ℕ) (values : List Float) where
-  pub midpoints_more : i < length b → length b ≤ 16 → values ≡ padded (take i (midpoints b)) → (d : Interval) {x : Float} → x ≡ midpoint (get_or b i d)
-      → set values i x ≡ padded (take (i + 1) (midpoints b))
-  unfolding midpoints
-  midpoints_more h few e d {x} w =
-      ap (λ (l : List Float). set l i x) e ∙ padded_more (midpoints b) i x (omega (arith, midpoints_length b)) (omega (arith, midpoints_length b))
-      (w ∙ sym (get_or-map midpoint b i d nan h))
+pub started_16 : (n k : ℕ) (bounds : List Interval) → n ≤ 16 → k ≡ min n (length bounds) → take n (take k bounds ++ drop k (replicate 16 missing)) ≡ starting n bounds
+started_16 n k bounds h e = started n 16 k bounds h e
 
--- ---- the widest of the boxes
-module _ (b : List Interval) (i : ℕ) (d : Interval) where
-  after : i < length b → drop i b ≡ get_or b i d ∷ drop (i + 1) b
-  after h = rw (add-one i) (drop-cons b i d h)
+pub take_16 : {A : Type 0} (n : ℕ) (x : A) → n ≤ 16 → take n (replicate 16 x) ≡ replicate n x
+take_16 n x h = take-replicate n 16 x h
 
-  none : length b ≤ i → drop i b ≡ []
-  none h = drop_of_length-le b {i = i} h
+-- ---- what a loop has left of a list, and what it has made
+pub ruleset shorter = (drop-cons, drop_of_length-le, add-one)
 
-  module _ (at : ℕ) (most : Float) {r : ℕ} (inv : widest_from at most i (drop i b) ≡ r) where
-    by_test : (k : Bool) → i < length b → (width (get_or b i d) ≺ most) ≡ k
-        → widest_from (when k then at else i) (when k then most else width (get_or b i d)) (i + 1) (drop (i + 1) b) ≡ r
-    unfolding widest_from
-    by_test k h w =
-        sym (ap (widest_from at most i) (after h)
-        ∙ ap (λ (t : Bool). widest_from (when t then at else i) (when t then most else width (get_or b i d)) (suc i) (drop (i + 1) b)) w
-        ∙ ap (λ (n : ℕ). widest_from (when k then at else i) (when k then most else width (get_or b i d)) n (drop (i + 1) b)) (sym (add-one i)))
-        ∙ inv
+pub ruleset longer = (padded_more, get_or-map, midpoints_length)
 
-    pub widest_keep : i < length b → (width (get_or b i d) ≺ most) ≡ true → widest_from at most (i + 1) (drop (i + 1) b) ≡ r
-    unfolding when◌then◌else◌
-    widest_keep h w = by_test true h w
+pub ruleset zeros = (take_16, zeros_blank)
 
-    pub widest_take : i < length b → (width (get_or b i d) ≺ most) ≡ false → widest_from i (width (get_or b i d)) (i + 1) (drop (i + 1) b) ≡ r
-    unfolding when◌then◌else◌
-    widest_take h w = by_test false h w
+pub ruleset places = (take_16, take-set-lt, padded_places, padded_blank, set_blank)
 
-    pub widest_done : length b ≤ i → at ≡ r
-    unfolding widest_from
-    widest_done h = sym (ap (widest_from at most i) (none h)) ∙ inv
+pub ruleset placed = (take_all, intervals_length, ends_paired)
 
-pub widest_start : (b : List Interval) (d : Interval) → 0 < length b → widest_from 0 (width (get_or b 0 d)) 1 (drop 1 b) ≡ widest b
-unfolding widest
-widest_start [] d h = absurd (omega arith)
-widest_start (x ∷ xs) d h = refl
+pub ruleset pasted = (pasted_more, lows_length, highs_length, get_or-map)

@@ -5,7 +5,7 @@ use Rattle.interval.specs.declared.domain.Domain.{Domain}
 use Rattle.interval.specs.declared.point.Point.{Point}
 
 abbrev pub intervals_of : Domain → List Interval
-intervals_of d = take d.count d.boxes
+intervals_of d = take d.count.n d.boxes
 
 abbrev pub values_of : Point → List Float
-values_of p = take p.count p.values
+values_of p = take p.count.n p.values

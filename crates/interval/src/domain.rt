@@ -5,6 +5,7 @@ ghost use Rattle.record.specs.Refused.{refusal_of};
 ghost use Rattle.interval.specs.Boxes.{missing, starting, midpoints, all_below, widest, any_empty, all_sound};
 
 use super::Interval;
+use super::count::Count;
 use super::point::Point;
 use record::Refusal;
 
@@ -15,6 +16,7 @@ pub const MISSING: Interval = Interval {
 };
 
 // The box of variable i.
+#[tactic(auto, unfolding(crate::specs::Boxes::missing, number::specs::Computing::computing))]
 pub fn box_at(boxes: &[Interval], i: usize) -> Interval
     ensures { result ≡ get_or boxes.now i missing }
 {
@@ -33,40 +35,40 @@ pub fn all_sound(boxes: &[Interval]) -> bool
 #[derive(Clone, Copy)]
 pub struct Domain {
     pub boxes: [Interval; 16],
-    pub count: usize,
-    pub ghost few: { count ≤ 16 },
+    pub count: Count,
 }
 
 impl Domain {
     ghost use Rattle.interval.specs.Views.{intervals_of, values_of};
 
-    // The first n of the bounds, a missing one being [-10, 10].
-    pub fn new(bounds: &[Interval], n: usize) -> Domain
-        requires { n ≤ 16 }
-        ensures { (result.count ≡ n) × (intervals_of result ≡ starting n bounds.now) }
+    // The first of the bounds, as many as that, a missing one being [-10, 10].
+    #[tactic(auto, using(crate::proofs::Loops::started_16), unfolding(crate::specs::Boxes::missing, number::specs::Computing::computing))]
+    pub fn new(bounds: &[Interval], count: Count) -> Domain
+        ensures { (result.count.n ≡ count.n) × (intervals_of result ≡ starting count.n bounds.now) }
     {
-        let known = n.min(bounds.len());
+        let known = count.n.min(bounds.len());
         let mut boxes = [MISSING; 16];
         boxes[..known].copy_from_slice(&bounds[..known]);
-        Domain { boxes, count: n }
+        Domain { boxes, count }
     }
 
-    // n boxes, each the same.
-    pub fn filled(v: Interval, n: usize) -> Domain
-        requires { n ≤ 16 }
-        ensures { (result.count ≡ n) × (intervals_of result ≡ replicate n v) }
+    // As many boxes, each the same.
+    #[tactic(auto, using(crate::proofs::Loops::places))]
+    pub fn filled(v: Interval, count: Count) -> Domain
+        ensures { (result.count.n ≡ count.n) × (intervals_of result ≡ replicate count.n v) }
     {
         Domain {
             boxes: [v; 16],
-            count: n,
+            count,
         }
     }
 
     // With v as box i. A box beyond the list alters nothing in it.
+    #[tactic(auto, using(crate::proofs::Loops::places))]
     pub fn with(self, i: usize, v: Interval) -> Domain
-        ensures { (result.count ≡ self.count) × (intervals_of result ≡ set (intervals_of self) i v) }
+        ensures { (result.count.n ≡ self.count.n) × (intervals_of result ≡ set (intervals_of self) i v) }
     {
-        if self.count <= i {
+        if self.count.n <= i {
             return self;
         }
         let mut domain = self;
@@ -75,34 +77,35 @@ impl Domain {
     }
 
     // The boxes that a call takes: at most 16, and each box sound; else 9.
+    #[tactic(auto, using(crate::specs::BoxLaws::starting_all))]
     pub fn of_sound(boxes: &[Interval]) -> Result<Domain, Refusal>
         ensures refusal { refusal_of result ≡ (9 unless leb (length boxes.now) 16 && all_sound boxes.now) }
-        ensures value { IfOk result (λ d. (d.count ≡ length boxes.now) × (intervals_of d ≡ boxes.now)) }
+        ensures value { IfOk result (λ d. (d.count.n ≡ length boxes.now) × (intervals_of d ≡ boxes.now)) }
     {
-        if (boxes.len() <= 16) && all_sound(boxes) {
-            return Ok(Self::new(boxes, boxes.len()));
+        let count = Count::try_from(boxes.len())?;
+        if !all_sound(boxes) {
+            return Err(Refusal::Boxes);
         }
-        Err(Refusal::Boxes)
+        Ok(Self::new(boxes, count))
     }
 
     pub fn as_slice(&self) -> &[Interval]
-        ensures { (result.now ≡ intervals_of self.now) × (length result.now ≡ self.now.count) }
+        ensures { (result.now ≡ intervals_of self.now) × (length result.now ≡ self.now.count.n) }
     {
-        &self.boxes[..self.count]
+        &self.boxes[..self.count.n]
     }
 
-    // The first n of these bounds.
-    pub fn starting(&self, n: usize) -> Domain
-        requires { n ≤ 16 }
-        ensures { (result.count ≡ n) × (intervals_of result ≡ starting n (intervals_of self.now)) }
+    // The first of these bounds.
+    pub fn starting(&self, count: Count) -> Domain
+        ensures { (result.count.n ≡ count.n) × (intervals_of result ≡ starting count.n (intervals_of self.now)) }
     {
-        Self::new(self.as_slice(), n)
+        Self::new(self.as_slice(), count)
     }
 
     // The midpoint of each box.
-    #[tactic(auto, unfolding(crate::specs::Boxes::midpoints, crate::specs::Boxes::padded))]
+    #[tactic(auto, using(crate::proofs::Loops::longer), unfolding(crate::specs::Boxes::midpoints, crate::specs::Boxes::padded, number::specs::Computing::computing))]
     pub fn midpoints(&self) -> Point
-        ensures { (result.count ≡ self.now.count) × (values_of result ≡ midpoints (intervals_of self.now)) }
+        ensures { (result.count.n ≡ self.now.count.n) × (values_of result ≡ midpoints (intervals_of self.now)) }
     {
         let mut values = [0.0; 16];
         for (i, b) in self.as_slice().iter().enumerate() {
@@ -122,14 +125,17 @@ impl Domain {
         self.as_slice().iter().all(|b| b.width() < tolerance)
     }
 
-    // The number of the last widest box.
+    // The number of the last widest box, and 0 where there is none.
+    #[tactic(auto, using(crate::proofs::Loops::shorter), unfolding(crate::specs::Boxes::widest_from, crate::specs::Boxes::widest, number::specs::Computing::computing))]
     pub fn widest(&self) -> usize
-        requires { 0 < self.now.count }
-        ensures { (result < self.now.count) × (result ≡ widest (intervals_of self.now)) }
+        ensures { result ≡ widest (intervals_of self.now) }
     {
         let boxes = self.as_slice();
+        let Some(first) = boxes.first() else {
+            return 0;
+        };
         let mut at = 0;
-        let mut most = boxes[0].width();
+        let mut most = first.width();
         for i in 1..boxes.len() {
             let w = boxes[i].width();
             if w < most {

@@ -10,34 +10,33 @@ ghost use Rattle.interval.specs.Domain.{domain_new, domain_is_empty};
 ghost use Rattle.interval.specs.Views.{intervals_of};
 
 use super::Interval;
+use super::count::Count;
 use super::domain::{Domain, MISSING, all_sound};
 use record::Refusal;
 
 impl Domain {
     // The boxes of as many ends of each kind, at most 16; else 9.
-    #[tactic(auto, unfolding(crate::specs::Boxes::are_paired))]
+    #[tactic(auto, using(crate::proofs::Loops::placed), unfolding(crate::specs::Boxes::are_paired))]
     pub fn of_ends(lo: &[f64], hi: &[f64]) -> Result<Domain, Refusal>
         ensures refusal { refusal_of result ≡ (9 unless are_paired lo.now hi.now) }
-        ensures value { IfOk result (λ d. (d.count ≡ length lo.now) × (intervals_of d ≡ intervals lo.now hi.now)) }
+        ensures value { IfOk result (λ d. (d.count.n ≡ length lo.now) × (intervals_of d ≡ intervals lo.now hi.now)) }
     {
-        let paired = (lo.len() == hi.len()) & (lo.len() <= 16);
-        if !paired {
+        if lo.len() != hi.len() {
             return Err(Refusal::Boxes);
         }
+        let count = Count::try_from(lo.len())?;
         let mut boxes = [MISSING; 16];
         for i in 0..lo.len() {
             boxes[i] = Interval::new(lo[i], hi[i]);
         }
-        Ok(Domain {
-            boxes,
-            count: lo.len(),
-        })
+        Ok(Domain { boxes, count })
     }
 
     // And each of them sound.
+    #[tactic(auto, using(record::specs::RefusalLaws::never_none), unfolding(crate::specs::Boxes::are_boxes))]
     pub fn of_sound_ends(lo: &[f64], hi: &[f64]) -> Result<Domain, Refusal>
         ensures refusal { refusal_of result ≡ (9 unless are_boxes lo.now hi.now) }
-        ensures value { IfOk result (λ d. (d.count ≡ length lo.now) × (intervals_of d ≡ intervals lo.now hi.now)) }
+        ensures value { IfOk result (λ d. (d.count.n ≡ length lo.now) × (intervals_of d ≡ intervals lo.now hi.now)) }
     {
         let domain = Domain::of_ends(lo, hi)?;
         if !all_sound(domain.as_slice()) {
@@ -47,10 +46,11 @@ impl Domain {
     }
 
     // Writes the ends to the first places of two lists.
+    #[tactic(auto, using(crate::proofs::Loops::pasted))]
     pub fn write_ends(&self, lo: &mut [f64], hi: &mut [f64])
-        requires { (self.now.count ≤ length lo.old) × (self.now.count ≤ length hi.old) }
-        ensures lo_value { final lo ≡ paste (old lo) 0 (lows (intervals_of self.now)) self.now.count }
-        ensures hi_value { final hi ≡ paste (old hi) 0 (highs (intervals_of self.now)) self.now.count }
+        requires { (self.now.count.n ≤ length lo.old) × (self.now.count.n ≤ length hi.old) }
+        ensures lo_value { final lo ≡ paste (old lo) 0 (lows (intervals_of self.now)) self.now.count.n }
+        ensures hi_value { final hi ≡ paste (old hi) 0 (highs (intervals_of self.now)) self.now.count.n }
     {
         for (i, b) in self.as_slice().iter().enumerate() {
             lo[i] = b.lo;
@@ -62,6 +62,7 @@ impl Domain {
 // ---- what the exported calls call
 
 // IntervalDomain::new. A refusal writes nothing.
+#[tactic(auto, using(record::specs::RefusalLaws::never_none), unfolding(crate::specs::Domain::domain_new, crate::specs::Domain::domain_refusal))]
 pub fn domain_new(
     lo: &[f64],
     hi: &[f64],
@@ -72,17 +73,16 @@ pub fn domain_new(
     ensures { (refusal_of result leaving (final out_lo, final out_hi)) ≡ domain_new lo.now hi.now n (old out_lo) (old out_hi) }
 {
     let bounds = Domain::of_sound_ends(lo, hi)?;
-    if 16 < n {
-        return Err(Refusal::Boxes);
-    }
+    let count = Count::try_from(n)?;
     if (n <= out_lo.len()) & (n <= out_hi.len()) {
-        bounds.starting(n).write_ends(out_lo, out_hi);
+        bounds.starting(count).write_ends(out_lo, out_hi);
         return Ok(());
     }
     Err(Refusal::Room)
 }
 
 // IntervalDomain::is_empty.
+#[tactic(auto, using(record::specs::RefusalLaws::refuses), unfolding(crate::specs::Domain::domain_is_empty))]
 pub fn domain_is_empty(lo: &[f64], hi: &[f64]) -> Result<bool, Refusal>
     ensures { numbered result ≡ domain_is_empty lo.now hi.now }
 {

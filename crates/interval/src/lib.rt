@@ -1,6 +1,7 @@
 // Intervals of two f64 (document 01, "Narrowing"), with the methods of interval.rs. They take any f64 and refuse nothing.
 #![tactic(auto)]
 
+mod count; // how many of either
 mod domain; // boxes: an interval for each variable
 mod ends; // boxes as two lists of ends, as C gives them
 mod point; // a value for each variable
@@ -10,6 +11,7 @@ ghost use Rattle.std.specs.Float.{binary64};
 ghost use Rattle.number.specs.Sound.{sound};
 ghost use Rattle.interval.specs.Interval.{◌‥◌, is_empty, width, midpoint, contains, split, intersect, hull, exp, has_ln, ln, plus, minus, moves};
 
+pub use count::Count;
 pub use domain::{Domain, all_sound, box_at};
 pub use ends::{domain_is_empty, domain_new};
 pub use point::Point;
@@ -41,6 +43,7 @@ impl Interval {
         Self::new(v, v)
     }
 
+    #[tactic(auto, using(number::specs::Order::nan_test), unfolding(crate::specs::Interval::is_empty))]
     pub fn is_empty(self) -> bool
         ensures { result ≡ is_empty self }
     {
@@ -61,6 +64,7 @@ impl Interval {
         self.hi - self.lo
     }
 
+    #[tactic(auto, unfolding(crate::specs::Interval::midpoint, number::specs::Computing::computing))]
     pub fn midpoint(self) -> f64
         ensures { result ≡ midpoint self }
     {
@@ -106,6 +110,7 @@ impl Interval {
     }
 
     // The ends of a point are computed once.
+    #[tactic(auto, using(crate::proofs::Points::point_exp), unfolding(crate::specs::Interval::exp))]
     pub fn exp(self) -> Self
         ensures { result ≡ exp self }
     {
@@ -116,12 +121,14 @@ impl Interval {
     }
 
     // Whether ln is real on it.
+    #[tactic(auto, using(crate::proofs::Floats::finite_test), unfolding(crate::specs::Interval::has_ln, number::specs::Computing::computing))]
     pub fn has_ln(self) -> bool
         ensures { result ≡ has_ln self }
     {
         !((self.lo <= 0.0) | !self.lo.is_finite() | !self.hi.is_finite())
     }
 
+    #[tactic(auto, using(crate::proofs::Points::point_ln), unfolding(crate::specs::Interval::ln, number::specs::Computing::computing))]
     pub fn ln(self) -> Self
         ensures { result ≡ ln self }
     {

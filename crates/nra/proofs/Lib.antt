@@ -1,4 +1,2 @@
-pub mod Halves
 pub mod Steps
 pub mod Answering
-pub mod Calling

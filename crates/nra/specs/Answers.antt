@@ -74,7 +74,7 @@ narrowed t d = propagate t.settings (the_constraint t.records) (intervals_of d)
 -- from the boxes d it meets no conflict, and leaves as many, with their midpoint
 pub record Narrows (t : Task) (d : Domain) (x : Domain × Point) : Type 0 where
   pub none : is_conflict (narrowed t d).answer ≡ false
-  pub kept : x.0.count ≡ d.count
+  pub kept : x.0.count.n ≡ d.count.n
   pub boxes : intervals_of x.0 ≡ (narrowed t d).places
   pub middle : values_of x.1 ≡ midpoints (intervals_of x.0)
 

@@ -5,7 +5,7 @@ pub mod answer; // what a solve answers
 pub mod halving; // one halving
 pub mod run; // many of them
 
-ghost use Rattle.std.specs.Prelude.{◌≡◌, [], length};
+ghost use Rattle.std.specs.Prelude.{◌≡◌, []};
 ghost use Rattle.settings.specs.Settings.{usual};
 ghost use Rattle.interval.specs.Views.{intervals_of};
 ghost use Rattle.constraint.specs.Constraint.{num_vars};
@@ -18,17 +18,18 @@ ghost use Rattle.nra.specs.Solver.{begin_empty, solve as solve_of};
 pub use answer::{Solved, Stop};
 use file::Problem;
 use halving::Task;
-use interval::{Domain, Point};
+use interval::{Count, Domain, Point};
 use point::stack::Stack;
 use record::Refusal;
 
 // ---- an accepted problem
 
 // Where there is no variable: whether the empty point passes.
+#[tactic(auto, unfolding(crate::specs::Solver::begin_empty, number::specs::Computing::computing))]
 fn solve_empty(task: &Task, stack: &mut Stack) -> Solved
     ensures { answer_of result ≡ begin_empty (check task.now.settings [] (the_constraint task.now.records)) }
 {
-    let point = Point::zeros(0);
+    let point = Point::zeros(Count { n: 0 });
     if task.passes(&point, stack) {
         return Solved::Assignment {
             point,
@@ -43,31 +44,34 @@ fn solve_empty(task: &Task, stack: &mut Stack) -> Solved
     }
 }
 
-// In these bounds, of n variables.
-fn solve_in(task: &Task, bounds: &Domain, n: usize, stack: &mut Stack) -> Solved
-    requires { n ≡ num_vars (the_constraint task.now.records) }
+// In these bounds, of as many variables.
+#[tactic(auto, using(crate::proofs::Answering::solving))]
+fn solve_in(task: &Task, bounds: &Domain, count: Count, stack: &mut Stack) -> Solved
+    requires { count.n ≡ num_vars (the_constraint task.now.records) }
     ensures { answer_of result ≡ solve_of task.now.settings (asked task.now) (intervals_of bounds.now) task.now.limit }
 {
-    if n == 0 {
+    if count.n == 0 {
         return solve_empty(task, stack);
     }
-    task.run(bounds.starting(n), stack)
+    task.run(bounds.starting(count), stack)
 }
 
 // Where there are places for a point: else 10.
+#[tactic(auto, using(crate::proofs::Answering::placing), unfolding(crate::specs::Calls::room_refusal))]
 fn solve_task(task: &Task, bounds: &Domain, room: usize) -> Result<Solved, Refusal>
     ensures { answered result ≡ answered_in task.now.settings (asked task.now) (intervals_of bounds.now) task.now.limit room }
 {
-    let n = task.records.num_vars(task.records.root());
+    let n = task.records.constraint().num_vars();
     if room < n {
         return Err(Refusal::Room);
     }
-    Ok(solve_in(task, bounds, n, &mut Stack::new()))
+    Ok(solve_in(task, bounds, Count { n }, &mut Stack::new()))
 }
 
 // ---- what the exported calls call
 
 // Solves a house file. `room` is how many places the caller has for the point.
+#[tactic(auto, using(file::specs::FileLaws::file_refused, record::specs::RefusalLaws::never_none, record::specs::RefusalLaws::refuses, record::specs::RefusalLaws::refuses_first), unfolding(crate::specs::Calls::solve_file))]
 pub fn solve_file(file: &[u8], limit: usize, tolerance: f64, room: usize) -> Result<Solved, Refusal>
     ensures { answered result ≡ solve_file usual file.now limit tolerance room }
 {
@@ -77,6 +81,7 @@ pub fn solve_file(file: &[u8], limit: usize, tolerance: f64, room: usize) -> Res
 }
 
 // Solves records with bounds.
+#[tactic(auto, using(file::specs::FileLaws::given_refused, record::specs::RefusalLaws::never_none, record::specs::RefusalLaws::refuses, record::specs::RefusalLaws::refuses_first), unfolding(crate::specs::Calls::solve_given, crate::specs::Calls::boxes_refusal))]
 pub fn solve(
     nodes: &[u8],
     constraints: &[u8],

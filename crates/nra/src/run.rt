@@ -1,5 +1,7 @@
 // A run (document 01; nra.rs): all before the first halving, a halving with all that follows it, and many of them.
-ghost use Rattle.std.specs.Prelude.{◌≡◌, ◌+◌, ◌<◌, ◌≤◌, length};
+#![tactic(auto, using(crate::proofs::Steps::tried_failed), unfolding(crate::specs::Solver::begin_in, crate::specs::Solver::begin_narrowed, crate::specs::Solver::begin_checked, crate::specs::Solver::settle_in, crate::specs::Solver::settle_narrowed, crate::specs::Solver::settle_checked, crate::specs::Solver::halve, crate::specs::Solver::distance, crate::specs::Solver::run, crate::specs::Solver::finish, crate::specs::Answers::tried, number::specs::Computing::computing))]
+
+ghost use Rattle.std.specs.Prelude.{◌≡◌, ◌<◌};
 
 use super::answer::{Solved, Stop};
 use super::halving::Task;
@@ -14,7 +16,6 @@ use std::ops::ControlFlow::{Break, Continue};
 pub struct State {
     pub boxes: Domain,
     pub halvings: usize,
-    pub ghost some: { 0 < boxes.count },
 }
 
 // A run goes on, or breaks off with its answer.
@@ -48,7 +49,6 @@ impl<'a> Task<'a> {
 
     // All before the first halving.
     pub fn begin(&self, start: Domain, stack: &mut Stack) -> ControlFlow<Solved, State>
-        requires { 0 < start.count }
         ensures { progress_of result ≡ begin_in self.now.settings (asked self.now) (intervals_of start) }
     {
         let (boxes, point) = self.narrow(start, 0)?;
@@ -64,7 +64,6 @@ impl<'a> Task<'a> {
 
     // What follows a halving, up to the next.
     fn settle(&self, half: Domain, halvings: usize, stack: &mut Stack) -> ControlFlow<Solved, State>
-        requires { 0 < half.count }
         ensures { progress_of result ≡ settle_in self.now.settings (asked self.now) halvings (intervals_of half) }
     {
         let (boxes, point) = self.narrow(half, halvings)?;
@@ -95,8 +94,8 @@ impl<'a> Task<'a> {
     }
 
     // Halves until the run breaks off or has made as many halvings as its limit.
+    #[tactic(auto, using(crate::proofs::Steps::run_steps))]
     pub fn steps(&self, start: Domain, stack: &mut Stack) -> ControlFlow<Solved, State>
-        requires { 0 < start.count }
         ensures { progress_of result ≡ steps self.now.settings (asked self.now) self.now.limit (begin_in self.now.settings (asked self.now) (intervals_of start)) }
     {
         let mut state = self.begin(start, stack)?;
@@ -108,7 +107,6 @@ impl<'a> Task<'a> {
 
     // From the starting boxes.
     pub fn run(&self, start: Domain, stack: &mut Stack) -> Solved
-        requires { 0 < start.count }
         ensures { answer_of result ≡ tried_in self.now.settings (asked self.now) self.now.limit (intervals_of start) }
     {
         match self.steps(start, stack) {

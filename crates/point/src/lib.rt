@@ -65,10 +65,8 @@ fn test_point<'a>(
     ensures value { IfOk result (λ p. Holds nodes.now constraints.now p.0 × (values_of p.1 ≡ point.now)) }
 {
     let records = file::read_given(nodes, constraints)?;
-    if 16 < point.len() {
-        return Err(Refusal::Boxes);
-    }
-    Ok((records, Point::new(point)))
+    let point = Point::new(point)?;
+    Ok((records, point))
 }
 
 // The measure of the constraint that the records leave.
