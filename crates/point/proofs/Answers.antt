@@ -11,8 +11,7 @@ use Rattle.record.specs.Refusal.{◌or_else◌, ◌unless◌}
 use Rattle.record.specs.RefusalLaws.{none_both, none_unless}
 use Rattle.tree.specs.Nodes.{list_refusal, Valid}
 use Rattle.tree.specs.NodeLaws.{list_valid, prefix}
-use Rattle.file.specs.File.{given_refusal}
-use Rattle.point.specs.Answer.{eval_refusal, point_refusal}
+use Rattle.point.specs.Answer.{eval_refusal}
 
 -- ---- eval_real: the refusals, in their order
 module _ (nodes : List ℕ) (k : ℕ) (p : List Float) where
@@ -45,13 +44,3 @@ module _ (nodes : List ℕ) (k : ℕ) (p : List Float) where
       let b = none_both (list_refusal nodes (length nodes / 16)) _ a.1 in
       let d = none_both (3 unless ltb k (length nodes / 16)) _ b.1 in
       prefix nodes (length nodes / 16) (list_valid nodes (length nodes / 16) b.0) (k + 1) (omega (arith, ltb-true k (length nodes / 16) (none_unless 2 (ltb k (length nodes / 16)) d.0)))
-
--- ---- records and a point
-module _ (nodes b : List ℕ) (p : List Float) (e : 0 ≡ given_refusal nodes b) where
-  pub over : 16 < length p → 9 ≡ point_refusal nodes b p
-  unfolding point_refusal
-  over h = sym (rw (sym e, lt-leb (length p) 16 h))
-
-  pub few : length p ≤ 16 → 0 ≡ point_refusal nodes b p
-  unfolding point_refusal
-  few h = sym (rw (sym e, le-leb (length p) 16 h))
