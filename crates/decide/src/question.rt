@@ -4,7 +4,7 @@ ghost use Rattle.std.specs.Prelude.{◌≡◌, ◌≤◌};
 use super::Verdict;
 use constraint::Records;
 use interval::{Domain, Interval, Point};
-use narrow::{Mode, PropResult, narrow_boxes};
+use narrow::{Mode, PropResult, Propagator};
 use point::helpers::check_constraint;
 use settings::Settings;
 
@@ -86,13 +86,12 @@ impl<'a> Question<'a> {
     fn is_refuted(&self) -> bool
         ensures { result ≡ refutes self.now.settings (the_constraint self.now.records) (box_of self.now) }
     {
-        let (result, _) = narrow_boxes(
-            &self.records,
-            self.records.root(),
-            self.settings,
-            Mode::Negated,
-            self.boxes(),
-        );
+        let propagator = Propagator {
+            records: &self.records,
+            settings: self.settings,
+            mode: Mode::Negated,
+        };
+        let (result, _) = propagator.narrow_boxes(self.records.root(), self.boxes());
         result == PropResult::Conflict
     }
 

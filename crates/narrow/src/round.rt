@@ -1,13 +1,14 @@
 // One round: a constraint's atoms narrow in their order, and an Or goes on with what its branches leave.
 #![tactic(auto, using(crate::proofs::Choices::choices), unfolding(crate::specs::Narrowing::survive, crate::specs::Narrowing::hull_with, crate::specs::Narrowing::tightened, crate::specs::Narrowing::adopt_survivors))]
 
-ghost use Rattle.std.specs.Prelude.{◌≡◌, ◌<◌, ◌≤◌, length, None, option_map};
+ghost use Rattle.std.specs.Prelude.{◌≡◌, ◌+◌, ◌<◌, None, option_map};
 ghost use Rattle.interval.specs.Views.{intervals_of};
+ghost use Rattle.tree.specs.Nodes.{Valid, tree_at};
 ghost use Rattle.record.specs.Leaving.{◌leaving◌};
 ghost use Rattle.record.specs.Views.{old, final};
 ghost use Rattle.constraint.specs.Views.{constraint_of, constraints_before, Taken};
-ghost use Rattle.narrow.specs.Narrowing.{hulls, survive as survive_of, tightened, adopt as adopt_of, adopt_survivors};
-ghost use Rattle.narrow.specs.Modes.{under_not, relation_in, pass, pass_all, pass_any, pass_several};
+ghost use Rattle.narrow.specs.Narrowing.{narrow_atom as atom_of, hulls, survive as survive_of, tightened, adopt as adopt_of, adopt_survivors};
+ghost use Rattle.narrow.specs.Modes.{under_not, relation_in, pass, pass_all, pass_any};
 
 use crate::PropResult;
 use crate::atom::narrow_atom;
@@ -17,7 +18,7 @@ use settings::Settings;
 
 // ---- the branches of an Or
 
-// The hull of each pair of boxes.
+// The hull of each pair of boxes. By number, as in `adopt`: of what is written through an adapter of `iter_mut` the checker knows nothing.
 fn hull_boxes(a: Domain, b: Domain) -> Domain
     ensures { intervals_of result ≡ hulls (intervals_of a) (intervals_of b) }
 {
@@ -64,15 +65,19 @@ fn adopt(settings: Settings, hull: &[Interval], boxes: &mut [Interval]) -> PropR
     result
 }
 
-fn adopt_survivors(
-    settings: Settings,
-    survivors: Option<Domain>,
-    boxes: &mut [Interval],
-) -> PropResult
-    ensures { (result leaving final boxes) ≡ adopt_survivors settings (option_map intervals_of survivors) (old boxes) }
+// On a copy of the list: the checker lends no part of one beside a ghost field, and knows that it has n places by `as_slice`.
+fn adopt_survivors(settings: Settings, survivors: Option<Domain>, domain: &mut Domain) -> PropResult
+    ensures count { domain.new.count ≡ domain.old.count }
+    ensures boxes { (result leaving intervals_of (final domain)) ≡ adopt_survivors settings (option_map intervals_of survivors) (intervals_of (old domain)) }
 {
     match survivors {
-        Some(hull) => adopt(settings, hull.as_slice(), boxes),
+        Some(hull) => {
+            let n = domain.as_slice().len();
+            let mut boxes = domain.boxes;
+            let result = adopt(settings, hull.as_slice(), &mut boxes[..n]);
+            domain.boxes = boxes;
+            result
+        }
         None => PropResult::Conflict,
     }
 }
@@ -108,131 +113,122 @@ impl Mode {
     }
 }
 
-// Constraint k. Under a Not the Rust narrows by the normal form of what is inside: the mode says so, and nothing is built.
-#[tactic(auto, using(crate::proofs::Passes::at_record), unfolding(crate::specs::Modes::pass))]
-#[cycle(round)]
-pub fn propagate_once(
-    records: &Records,
-    k: usize,
-    settings: Settings,
-    mode: Mode,
-    boxes: &mut [Interval],
-) -> PropResult
-    requires { (k < records.now.count) × (length boxes.old ≤ 16) }
-    ensures { (result leaving final boxes) ≡ pass settings mode (constraint_of records.now k) (old boxes) }
-{
-    match constraint::record_in(records.constraints, k) {
-        Record::Atom(relation, i) => {
-            narrow_atom(records.nodes, i, settings, mode.relation(relation), boxes)
-        }
-        Record::Not => propagate_once(records, k - 1, settings, mode.under_not(), boxes),
-        Record::And(m) => {
-            narrow_several(records, m, k, mode == Mode::Negated, settings, mode, boxes)
-        }
-        Record::Or(m) => narrow_several(
-            records,
-            m,
+// What boxes are narrowed by: the constraints of records, by the settings, each taken in the mode.
+#[derive(Clone, Copy)]
+pub struct Propagator<'a> {
+    pub records: &'a Records<'a>,
+    pub settings: Settings,
+    pub mode: Mode,
+}
+
+impl<'a> Propagator<'a> {
+    // An atom of node k's tree, on a copy as in `adopt_survivors`.
+    fn narrow_atom(&self, k: usize, relation: Relation, domain: &mut Domain) -> PropResult
+        requires { Valid self.now.records.now.nodes.now (k + 1) }
+        ensures count { domain.new.count ≡ domain.old.count }
+        ensures boxes { (result leaving intervals_of (final domain)) ≡ atom_of self.now.settings (relation_in self.now.mode relation) (tree_at self.now.records.now.nodes.now k) (intervals_of (old domain)) }
+    {
+        let n = domain.as_slice().len();
+        let mut boxes = domain.boxes;
+        let relation = self.mode.relation(relation);
+        let result = narrow_atom(
+            self.records.nodes,
             k,
-            mode != Mode::Negated,
-            settings,
-            mode,
-            boxes,
-        ),
-        Record::ForAll(_, _, _) => PropResult::Stable,
-        Record::Exists(_, _, _) => PropResult::Stable,
+            self.settings,
+            relation,
+            &mut boxes[..n],
+        );
+        domain.boxes = boxes;
+        result
     }
-}
 
-// The last m constraints that are finished before record end: one of them is to hold, or all.
-#[cycle(round)]
-fn narrow_several(
-    records: &Records,
-    m: usize,
-    end: usize,
-    one: bool,
-    settings: Settings,
-    mode: Mode,
-    boxes: &mut [Interval],
-) -> PropResult
-    requires { Taken records.now m end × (length boxes.old ≤ 16) }
-    ensures { (result leaving final boxes) ≡ pass_several one settings mode (constraints_before records.now m end) (old boxes) }
-{
-    if one {
-        let survivors = survivors_of(records, m, end, settings, mode, boxes);
-        return adopt_survivors(settings, survivors, boxes);
+    // Constraint k. Under a Not the Rust narrows by the normal form of what is inside: the mode says so, and nothing is built.
+    #[tactic(auto, using(crate::proofs::Passes::at_record), unfolding(crate::specs::Modes::pass))]
+    #[cycle(round)]
+    pub fn propagate_once(&self, k: usize, domain: &mut Domain) -> PropResult
+        requires { k < self.now.records.now.count }
+        ensures count { domain.new.count ≡ domain.old.count }
+        ensures boxes { (result leaving intervals_of (final domain)) ≡ pass self.now.settings self.now.mode (constraint_of self.now.records.now k) (intervals_of (old domain)) }
+    {
+        match constraint::record_in(self.records.constraints, k) {
+            Record::Atom(relation, i) => self.narrow_atom(i, relation, domain),
+            Record::Not => {
+                let inside = Propagator {
+                    mode: self.mode.under_not(),
+                    ..*self
+                };
+                inside.propagate_once(k - 1, domain)
+            }
+            Record::And(m) => {
+                if self.mode == Mode::Negated {
+                    return self.narrow_any(m, k, domain);
+                }
+                self.narrow_all(m, k, domain)
+            }
+            Record::Or(m) => {
+                if self.mode == Mode::Negated {
+                    return self.narrow_all(m, k, domain);
+                }
+                self.narrow_any(m, k, domain)
+            }
+            Record::ForAll(_, _, _) => PropResult::Stable,
+            Record::Exists(_, _, _) => PropResult::Stable,
+        }
     }
-    narrow_all(records, m, end, settings, mode, boxes)
-}
 
-// All of them, oldest first, up to a Conflict.
-#[tactic(auto, using(crate::proofs::Passes::several))]
-#[cycle(round)]
-fn narrow_all(
-    records: &Records,
-    m: usize,
-    end: usize,
-    settings: Settings,
-    mode: Mode,
-    boxes: &mut [Interval],
-) -> PropResult
-    requires { Taken records.now m end × (length boxes.old ≤ 16) }
-    ensures { (result leaving final boxes) ≡ pass_all settings mode (constraints_before records.now m end) (old boxes) }
-{
-    if m == 0 {
-        return PropResult::Stable;
+    // The last m constraints that are finished before record end, oldest first, up to a Conflict.
+    #[tactic(auto, using(crate::proofs::Passes::several))]
+    #[cycle(round)]
+    fn narrow_all(&self, m: usize, end: usize, domain: &mut Domain) -> PropResult
+        requires { Taken self.now.records.now m end }
+        ensures count { domain.new.count ≡ domain.old.count }
+        ensures boxes { (result leaving intervals_of (final domain)) ≡ pass_all self.now.settings self.now.mode (constraints_before self.now.records.now m end) (intervals_of (old domain)) }
+    {
+        if m == 0 {
+            return PropResult::Stable;
+        }
+        let last = end - 1;
+        let before = self.narrow_all(m - 1, self.records.start(last), domain);
+        if before == PropResult::Conflict {
+            return before;
+        }
+        before.max(self.propagate_once(last, domain))
     }
-    let last = end - 1;
-    let before = narrow_all(records, m - 1, records.start(last), settings, mode, boxes);
-    if before == PropResult::Conflict {
-        return before;
-    }
-    before.max(propagate_once(records, last, settings, mode, boxes))
-}
 
-// The hull of those that survive, each narrowed from the same boxes.
-#[tactic(auto, using(crate::proofs::Passes::several))]
-#[cycle(round)]
-fn survivors_of(
-    records: &Records,
-    m: usize,
-    end: usize,
-    settings: Settings,
-    mode: Mode,
-    boxes: &[Interval],
-) -> Option<Domain>
-    requires { Taken records.now m end × (length boxes.now ≤ 16) }
-    ensures { option_map intervals_of result ≡ pass_any settings mode (constraints_before records.now m end) boxes.now None }
-{
-    if m == 0 {
-        return None;
+    // One of them is to hold: the hull of those that survive is adopted.
+    #[cycle(round)]
+    fn narrow_any(&self, m: usize, end: usize, domain: &mut Domain) -> PropResult
+        requires { Taken self.now.records.now m end }
+        ensures count { domain.new.count ≡ domain.old.count }
+        ensures boxes { (result leaving intervals_of (final domain)) ≡ adopt_survivors self.now.settings (pass_any self.now.settings self.now.mode (constraints_before self.now.records.now m end) (intervals_of (old domain)) None) (intervals_of (old domain)) }
+    {
+        let survivors = self.survivors_of(m, end, domain);
+        adopt_survivors(self.settings, survivors, domain)
     }
-    let last = end - 1;
-    let so_far = survivors_of(records, m - 1, records.start(last), settings, mode, boxes);
-    with_branch(records, last, settings, mode, boxes, so_far)
-}
 
-// Those so far, with constraint k if it survives in the boxes.
-#[cycle(round)]
-fn with_branch(
-    records: &Records,
-    k: usize,
-    settings: Settings,
-    mode: Mode,
-    boxes: &[Interval],
-    so_far: Option<Domain>,
-) -> Option<Domain>
-    requires { (k < records.now.count) × (length boxes.now ≤ 16) }
-    ensures { option_map intervals_of result ≡ survive_of (option_map intervals_of so_far) (pass settings mode (constraint_of records.now k) boxes.now) }
-{
-    let count = boxes.len();
-    let mut branch = Domain::new(boxes, count).boxes;
-    let result = propagate_once(records, k, settings, mode, &mut branch[..count]);
-    survive(
-        so_far,
-        result,
-        Domain {
-            boxes: branch,
-            count,
-        },
-    )
+    // The hull of those that survive, each narrowed from the same boxes.
+    #[tactic(auto, using(crate::proofs::Passes::several))]
+    #[cycle(round)]
+    fn survivors_of(&self, m: usize, end: usize, domain: &Domain) -> Option<Domain>
+        requires { Taken self.now.records.now m end }
+        ensures { option_map intervals_of result ≡ pass_any self.now.settings self.now.mode (constraints_before self.now.records.now m end) (intervals_of domain.now) None }
+    {
+        if m == 0 {
+            return None;
+        }
+        let last = end - 1;
+        let so_far = self.survivors_of(m - 1, self.records.start(last), domain);
+        self.with_branch(last, domain, so_far)
+    }
+
+    // Those so far, with constraint k if it survives in the boxes.
+    #[cycle(round)]
+    fn with_branch(&self, k: usize, domain: &Domain, so_far: Option<Domain>) -> Option<Domain>
+        requires { k < self.now.records.now.count }
+        ensures { option_map intervals_of result ≡ survive_of (option_map intervals_of so_far) (pass self.now.settings self.now.mode (constraint_of self.now.records.now k) (intervals_of domain.now)) }
+    {
+        let mut branch = *domain;
+        let result = self.propagate_once(k, &mut branch);
+        survive(so_far, result, branch)
+    }
 }

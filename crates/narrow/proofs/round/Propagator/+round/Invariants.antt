@@ -1,12 +1,12 @@
 -- What falls at each call.
 use Rattle.std.proofs.Common.{suc, ◌*◌}
-use Rattle.narrow.proofs.round.«+round».Given as goal
+use Rattle.narrow.proofs.round.Propagator.«+round».Given as goal
 
 abbrev pub decreases-propagate_once : goal.decreases-propagate_once
 decreases-propagate_once l = suc (suc (4 * l.k))
 
-abbrev pub decreases-narrow_several : goal.decreases-narrow_several
-decreases-narrow_several l = suc (4 * l.end)
+abbrev pub decreases-narrow_any : goal.decreases-narrow_any
+decreases-narrow_any l = suc (4 * l.end)
 
 abbrev pub decreases-narrow_all : goal.decreases-narrow_all
 decreases-narrow_all l = 4 * l.end
