@@ -22,10 +22,12 @@ use settings::Settings;
 fn hull_boxes(a: Domain, b: Domain) -> Domain
     ensures { intervals_of result ≡ hulls (intervals_of a) (intervals_of b) }
 {
-    let count = a.count.min(b.count);
+    let left = a.as_slice();
+    let right = b.as_slice();
+    let count = left.len().min(right.len());
     let mut boxes = a.boxes;
     for i in 0..count {
-        boxes[i] = a.boxes[i].hull(b.boxes[i]);
+        boxes[i] = left[i].hull(right[i]);
     }
     Domain { boxes, count }
 }
