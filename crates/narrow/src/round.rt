@@ -1,9 +1,9 @@
 // One round: a constraint's atoms narrow in their order, and an Or goes on with what its branches leave.
 #![tactic(auto, using(crate::proofs::Choices::choices), unfolding(crate::specs::Narrowing::survive, crate::specs::Narrowing::hull_with, crate::specs::Narrowing::tightened, crate::specs::Narrowing::adopt_survivors))]
 
-ghost use Rattle.std.specs.Prelude.{◌≡◌, ◌+◌, ◌<◌, None, option_map};
+ghost use Rattle.std.specs.Prelude.{◌≡◌, ◌<◌, None, option_map};
 ghost use Rattle.interval.specs.Views.{intervals_of};
-ghost use Rattle.tree.specs.Nodes.{Valid, tree_at};
+ghost use Rattle.tree.specs.Views.{the_tree};
 ghost use Rattle.record.specs.Leaving.{◌leaving◌};
 ghost use Rattle.record.specs.Views.{old, final};
 ghost use Rattle.constraint.specs.Views.{constraint_of, constraints_before, Taken};
@@ -15,6 +15,7 @@ use crate::atom::narrow_atom;
 use constraint::{Record, Records, Relation};
 use interval::{Domain, Interval};
 use settings::Settings;
+use tree::EmlTree;
 
 // ---- the branches of an Or
 
@@ -124,22 +125,15 @@ pub struct Propagator<'a> {
 }
 
 impl<'a> Propagator<'a> {
-    // An atom of node k's tree, on a copy as in `adopt_survivors`.
-    fn narrow_atom(&self, k: usize, relation: Relation, domain: &mut Domain) -> PropResult
-        requires { Valid self.now.records.now.nodes.now (k + 1) }
+    // An atom, on a copy as in `adopt_survivors`.
+    fn narrow_atom(&self, tree: EmlTree, relation: Relation, domain: &mut Domain) -> PropResult
         ensures count { domain.new.count ≡ domain.old.count }
-        ensures boxes { (result leaving intervals_of (final domain)) ≡ atom_of self.now.settings (relation_in self.now.mode relation) (tree_at self.now.records.now.nodes.now k) (intervals_of (old domain)) }
+        ensures boxes { (result leaving intervals_of (final domain)) ≡ atom_of self.now.settings (relation_in self.now.mode relation) (the_tree tree.entry) (intervals_of (old domain)) }
     {
         let n = domain.as_slice().len();
         let mut boxes = domain.boxes;
         let relation = self.mode.relation(relation);
-        let result = narrow_atom(
-            self.records.nodes,
-            k,
-            self.settings,
-            relation,
-            &mut boxes[..n],
-        );
+        let result = narrow_atom(tree, self.settings, relation, &mut boxes[..n]);
         domain.boxes = boxes;
         result
     }
@@ -153,7 +147,9 @@ impl<'a> Propagator<'a> {
         ensures boxes { (result leaving intervals_of (final domain)) ≡ pass self.now.settings self.now.mode (constraint_of self.now.records.now k) (intervals_of (old domain)) }
     {
         match constraint::record_in(self.records.constraints, k) {
-            Record::Atom(relation, i) => self.narrow_atom(i, relation, domain),
+            Record::Atom(relation, i) => {
+                self.narrow_atom(self.records.tree(i), relation, domain)
+            },
             Record::Not => {
                 let inside = Propagator {
                     mode: self.mode.under_not(),
