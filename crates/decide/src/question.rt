@@ -87,11 +87,10 @@ impl<'a> Question<'a> {
         ensures { result ≡ refutes self.now.settings (the_constraint self.now.records) (box_of self.now) }
     {
         let propagator = Propagator {
-            records: &self.records,
             settings: self.settings,
             mode: Mode::Negated,
         };
-        let (result, _) = propagator.narrow_boxes(self.records.root(), self.boxes());
+        let (result, _) = propagator.narrow_boxes(self.records.constraint(), self.boxes());
         result == PropResult::Conflict
     }
 

@@ -23,11 +23,10 @@ pub fn propagate(
     let records = file::read_given(nodes, constraints)?;
     let mut domain = Domain::of_sound(boxes)?;
     let propagator = Propagator {
-        records: &records,
         settings: settings::usual(),
         mode: Mode::Written,
     };
-    let result = propagator.propagate(records.root(), &mut domain);
+    let result = propagator.propagate(records.constraint(), &mut domain);
     boxes.copy_from_slice(domain.as_slice());
     Ok(result)
 }

@@ -7,11 +7,11 @@ mod backward; // from a node down to the variables
 mod forward; // the interval of a tree's values
 mod round; // a constraint, once
 
-ghost use Rattle.std.specs.Prelude.{◌≡◌, ◌<◌, ◌≤◌, length};
+ghost use Rattle.std.specs.Prelude.{◌≡◌};
 ghost use Rattle.interval.specs.Views.{intervals_of};
 ghost use Rattle.record.specs.Leaving.{◌leaving◌};
 ghost use Rattle.record.specs.Views.{old, final};
-ghost use Rattle.constraint.specs.Views.{constraint_of};
+ghost use Rattle.constraint.specs.Views.{meaning};
 ghost use Rattle.narrow.specs.Narrowing.{propagate as propagate_of};
 ghost use Rattle.narrow.specs.Modes.{in_mode};
 ghost use Rattle.narrow.specs.Given.{propagate_given};
@@ -19,7 +19,7 @@ ghost use Rattle.record.specs.Refused.{numbered};
 ghost use Rattle.settings.specs.Settings.{usual};
 
 pub use backward::backward_propagate;
-use constraint::Records;
+use constraint::EmlConstraint;
 pub use forward::eval_interval;
 use interval::Domain;
 use record::Refusal;
@@ -49,16 +49,15 @@ impl From<PropResult> for u8 {
     }
 }
 
-impl<'a> Propagator<'a> {
-    // Constraint k, in rounds until nothing changes or a Conflict, at most as many as the settings say.
-    pub fn propagate(&self, k: usize, domain: &mut Domain) -> PropResult
-        requires { k < self.now.records.now.count }
+impl Propagator {
+    // In rounds until nothing changes or a Conflict, at most as many as the settings say.
+    pub fn propagate(self, c: EmlConstraint, domain: &mut Domain) -> PropResult
         ensures count { domain.new.count ≡ domain.old.count }
-        ensures boxes { (result leaving intervals_of (final domain)) ≡ propagate_of self.now.settings (in_mode self.now.mode (constraint_of self.now.records.now k)) (intervals_of (old domain)) }
+        ensures boxes { (result leaving intervals_of (final domain)) ≡ propagate_of self.settings (in_mode self.mode (meaning c.entry)) (intervals_of (old domain)) }
     {
         let mut done = PropResult::Stable;
         for _ in 0..self.settings.rounds {
-            let result = self.propagate_once(k, domain);
+            let result = self.propagate_once(c, domain);
             done = done.max(result);
             if result != PropResult::Changed {
                 return done;
@@ -68,12 +67,11 @@ impl<'a> Propagator<'a> {
     }
 
     // The same on boxes by value.
-    pub fn narrow_boxes(&self, k: usize, domain: Domain) -> (PropResult, Domain)
-        requires { k < self.now.records.now.count }
-        ensures { (result.1.count ≡ domain.count) × ((result.0 leaving intervals_of result.1) ≡ propagate_of self.now.settings (in_mode self.now.mode (constraint_of self.now.records.now k)) (intervals_of domain)) }
+    pub fn narrow_boxes(self, c: EmlConstraint, domain: Domain) -> (PropResult, Domain)
+        ensures { (result.1.count ≡ domain.count) × ((result.0 leaving intervals_of result.1) ≡ propagate_of self.settings (in_mode self.mode (meaning c.entry)) (intervals_of domain)) }
     {
         let mut boxes = domain;
-        let result = self.propagate(k, &mut boxes);
+        let result = self.propagate(c, &mut boxes);
         (result, boxes)
     }
 }
@@ -90,11 +88,10 @@ pub fn propagate_given(
     let records = file::read_given(nodes, constraints)?;
     let domain = Domain::of_sound_ends(lo, hi)?;
     let propagator = Propagator {
-        records: &records,
         settings: settings::usual(),
         mode: Mode::Written,
     };
-    let (result, narrowed) = propagator.narrow_boxes(records.root(), domain);
+    let (result, narrowed) = propagator.narrow_boxes(records.constraint(), domain);
     narrowed.write_ends(lo, hi);
     Ok(result)
 }

@@ -1,18 +1,19 @@
 // One round: a constraint's atoms narrow in their order, and an Or goes on with what its branches leave.
 #![tactic(auto, using(crate::proofs::Choices::choices), unfolding(crate::specs::Narrowing::survive, crate::specs::Narrowing::hull_with, crate::specs::Narrowing::tightened, crate::specs::Narrowing::adopt_survivors))]
 
-ghost use Rattle.std.specs.Prelude.{◌≡◌, ◌<◌, None, option_map};
+ghost use Rattle.std.specs.Prelude.{◌≡◌, None, option_map};
 ghost use Rattle.interval.specs.Views.{intervals_of};
 ghost use Rattle.tree.specs.Views.{the_tree};
 ghost use Rattle.record.specs.Leaving.{◌leaving◌};
 ghost use Rattle.record.specs.Views.{old, final};
-ghost use Rattle.constraint.specs.Views.{constraint_of, constraints_before, Taken};
+ghost use Rattle.constraint.specs.Records.{gather};
+ghost use Rattle.constraint.specs.Views.{meaning, meanings};
 ghost use Rattle.narrow.specs.Narrowing.{narrow_atom as atom_of, hulls, survive as survive_of, tightened, adopt as adopt_of, adopt_survivors};
 ghost use Rattle.narrow.specs.Modes.{under_not, relation_in, pass, pass_all, pass_any};
 
 use crate::PropResult;
 use crate::atom::narrow_atom;
-use constraint::{Record, Records, Relation};
+use constraint::{EmlConstraint, Operands, Relation, Shape};
 use interval::{Domain, Interval};
 use settings::Settings;
 use tree::EmlTree;
@@ -116,19 +117,18 @@ impl Mode {
     }
 }
 
-// What boxes are narrowed by: the constraints of records, by the settings, each taken in the mode.
+// How boxes are narrowed by a constraint: by the settings, and in which mode it is taken.
 #[derive(Clone, Copy)]
-pub struct Propagator<'a> {
-    pub records: &'a Records<'a>,
+pub struct Propagator {
     pub settings: Settings,
     pub mode: Mode,
 }
 
-impl<'a> Propagator<'a> {
+impl Propagator {
     // An atom, on a copy as in `adopt_survivors`.
-    fn narrow_atom(&self, tree: EmlTree, relation: Relation, domain: &mut Domain) -> PropResult
+    fn narrow_atom(self, relation: Relation, tree: EmlTree, domain: &mut Domain) -> PropResult
         ensures count { domain.new.count ≡ domain.old.count }
-        ensures boxes { (result leaving intervals_of (final domain)) ≡ atom_of self.now.settings (relation_in self.now.mode relation) (the_tree tree.entry) (intervals_of (old domain)) }
+        ensures boxes { (result leaving intervals_of (final domain)) ≡ atom_of self.settings (relation_in self.mode relation) (the_tree tree.entry) (intervals_of (old domain)) }
     {
         let n = domain.as_slice().len();
         let mut boxes = domain.boxes;
@@ -138,55 +138,49 @@ impl<'a> Propagator<'a> {
         result
     }
 
-    // Constraint k. Under a Not the Rust narrows by the normal form of what is inside: the mode says so, and nothing is built.
-    #[tactic(auto, using(crate::proofs::Passes::at_record), unfolding(crate::specs::Modes::pass))]
+    // Under a Not the Rust narrows by the normal form of what is inside: the mode says so, and nothing is built.
+    #[tactic(auto, unfolding(crate::specs::Modes::pass))]
     #[cycle(round)]
-    pub fn propagate_once(&self, k: usize, domain: &mut Domain) -> PropResult
-        requires { k < self.now.records.now.count }
+    pub fn propagate_once(self, c: EmlConstraint, domain: &mut Domain) -> PropResult
         ensures count { domain.new.count ≡ domain.old.count }
-        ensures boxes { (result leaving intervals_of (final domain)) ≡ pass self.now.settings self.now.mode (constraint_of self.now.records.now k) (intervals_of (old domain)) }
+        ensures boxes { (result leaving intervals_of (final domain)) ≡ pass self.settings self.mode (meaning c.entry) (intervals_of (old domain)) }
     {
-        match constraint::record_in(self.records.constraints, k) {
-            Record::Atom(relation, i) => {
-                self.narrow_atom(self.records.tree(i), relation, domain)
-            },
-            Record::Not => {
-                let inside = Propagator {
+        match c.shape() {
+            Shape::Atom(relation, tree) => self.narrow_atom(relation, tree, domain),
+            Shape::Not(inside) => {
+                let under = Propagator {
                     mode: self.mode.under_not(),
-                    ..*self
+                    ..self
                 };
-                inside.propagate_once(k - 1, domain)
+                under.propagate_once(inside, domain)
             }
-            Record::And(m) => {
+            Shape::And(cs) => {
                 if self.mode == Mode::Negated {
-                    return self.narrow_any(m, k, domain);
+                    return self.narrow_any(cs, domain);
                 }
-                self.narrow_all(m, k, domain)
+                self.narrow_all(cs, domain)
             }
-            Record::Or(m) => {
+            Shape::Or(cs) => {
                 if self.mode == Mode::Negated {
-                    return self.narrow_all(m, k, domain);
+                    return self.narrow_all(cs, domain);
                 }
-                self.narrow_any(m, k, domain)
+                self.narrow_any(cs, domain)
             }
-            Record::ForAll(_, _, _) => PropResult::Stable,
-            Record::Exists(_, _, _) => PropResult::Stable,
+            Shape::ForAll(_, _, _, _) | Shape::Exists(_, _, _, _) => PropResult::Stable,
         }
     }
 
-    // The last m constraints that are finished before record end, oldest first, up to a Conflict.
+    // All of them, oldest first, up to a Conflict.
     #[tactic(auto, using(crate::proofs::Passes::several))]
     #[cycle(round)]
-    fn narrow_all(&self, m: usize, end: usize, domain: &mut Domain) -> PropResult
-        requires { Taken self.now.records.now m end }
+    fn narrow_all(self, cs: Operands, domain: &mut Domain) -> PropResult
         ensures count { domain.new.count ≡ domain.old.count }
-        ensures boxes { (result leaving intervals_of (final domain)) ≡ pass_all self.now.settings self.now.mode (constraints_before self.now.records.now m end) (intervals_of (old domain)) }
+        ensures boxes { (result leaving intervals_of (final domain)) ≡ pass_all self.settings self.mode (gather (meanings cs.entry)) (intervals_of (old domain)) }
     {
-        if m == 0 {
+        let Some((last, others)) = cs.split_last() else {
             return PropResult::Stable;
-        }
-        let last = end - 1;
-        let before = self.narrow_all(m - 1, self.records.start(last), domain);
+        };
+        let before = self.narrow_all(others, domain);
         if before == PropResult::Conflict {
             return before;
         }
@@ -195,38 +189,24 @@ impl<'a> Propagator<'a> {
 
     // One of them is to hold: the hull of those that survive is adopted.
     #[cycle(round)]
-    fn narrow_any(&self, m: usize, end: usize, domain: &mut Domain) -> PropResult
-        requires { Taken self.now.records.now m end }
+    fn narrow_any(self, cs: Operands, domain: &mut Domain) -> PropResult
         ensures count { domain.new.count ≡ domain.old.count }
-        ensures boxes { (result leaving intervals_of (final domain)) ≡ adopt_survivors self.now.settings (pass_any self.now.settings self.now.mode (constraints_before self.now.records.now m end) (intervals_of (old domain)) None) (intervals_of (old domain)) }
+        ensures boxes { (result leaving intervals_of (final domain)) ≡ adopt_survivors self.settings (pass_any self.settings self.mode (gather (meanings cs.entry)) (intervals_of (old domain)) None) (intervals_of (old domain)) }
     {
-        let survivors = self.survivors_of(m, end, domain);
+        let survivors = self.survivors_of(cs, domain);
         adopt_survivors(self.settings, survivors, domain)
     }
 
     // The hull of those that survive, each narrowed from the same boxes.
     #[tactic(auto, using(crate::proofs::Passes::several))]
     #[cycle(round)]
-    fn survivors_of(&self, m: usize, end: usize, domain: &Domain) -> Option<Domain>
-        requires { Taken self.now.records.now m end }
-        ensures { option_map intervals_of result ≡ pass_any self.now.settings self.now.mode (constraints_before self.now.records.now m end) (intervals_of domain.now) None }
+    fn survivors_of(self, cs: Operands, domain: &Domain) -> Option<Domain>
+        ensures { option_map intervals_of result ≡ pass_any self.settings self.mode (gather (meanings cs.entry)) (intervals_of domain.now) None }
     {
-        if m == 0 {
-            return None;
-        }
-        let last = end - 1;
-        let so_far = self.survivors_of(m - 1, self.records.start(last), domain);
-        self.with_branch(last, domain, so_far)
-    }
-
-    // Those so far, with constraint k if it survives in the boxes.
-    #[cycle(round)]
-    fn with_branch(&self, k: usize, domain: &Domain, so_far: Option<Domain>) -> Option<Domain>
-        requires { k < self.now.records.now.count }
-        ensures { option_map intervals_of result ≡ survive_of (option_map intervals_of so_far) (pass self.now.settings self.now.mode (constraint_of self.now.records.now k) (intervals_of domain.now)) }
-    {
+        let (last, others) = cs.split_last()?;
+        let so_far = self.survivors_of(others, domain);
         let mut branch = *domain;
-        let result = self.propagate_once(k, &mut branch);
+        let result = self.propagate_once(last, &mut branch);
         survive(so_far, result, branch)
     }
 }

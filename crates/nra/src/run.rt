@@ -30,11 +30,10 @@ impl<'a> Task<'a> {
         ensures { MatchControlFlow result (Narrows self.now start) (Conflicts self.now start halvings) }
     {
         let propagator = Propagator {
-            records: &self.records,
             settings: self.settings,
             mode: Mode::Written,
         };
-        let (result, boxes) = propagator.narrow_boxes(self.records.root(), start);
+        let (result, boxes) = propagator.narrow_boxes(self.records.constraint(), start);
         if result == PropResult::Conflict {
             return Break(Solved::Failed {
                 stop: Stop::Conflict,

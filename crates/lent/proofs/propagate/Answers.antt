@@ -1,7 +1,5 @@
 -- `lent::propagate` meets its contract. Assumes nothing.
-use mathlib.Core.Path.{◌≡◌, sym, ap}
-use native.Mathlib.Omega.{arith}
-use Rattle.std.proofs.Common.{◌-◌}
+use mathlib.Core.Path.{sym, ap}
 use Rattle.std.proofs.lemmas.Result.{err_from_is_err_and}
 use Rattle.record.specs.RefusalLaws.{none_unless}
 use Rattle.narrow.specs.GivenLaws.{records_refused, boxes_refused, boxes_taken}
@@ -25,7 +23,6 @@ pub returns : goal.returns
 unfolding propagate_lent
 returns c =
     let d = c.in_ok-domain.ensures in
-    let root : c.root.result ≡ c.in_ok-records.records.count - 1 = omega (arith, c.root.ensures) in
     rw (c.copy_from_slice.ensures.after, c.as_slice.ensures.0)
     (boxes_taken _ _ _ _ c.in_ok-records.ensures.constraint (none_unless 8 _ (sym d.refusal))
-    (ap (answered (λ x. x)) (rw (root, c.usual.ensures, d.value.1) at c.propagate-result.ensures.boxes)))
+    (ap (answered (λ x. x)) (rw (c.constraint.ensures, c.usual.ensures, d.value.1) at c.propagate-result.ensures.boxes)))
