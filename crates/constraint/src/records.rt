@@ -88,7 +88,8 @@ impl<'a> Records<'a> {
 
     // The one that is left: the last record finishes it.
     pub fn constraint(&self) -> EmlConstraint
-        ensures { meaning result ≡ the_constraint self.now }
+        ensures meaning { meaning result ≡ the_constraint self.now }
+        ensures root { result.root + 1 ≡ self.now.count }
     {
         EmlConstraint {
             records: self,

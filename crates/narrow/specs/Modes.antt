@@ -58,9 +58,6 @@ unfoldable mutual
   pass_any σ w end b so_far = so_far
   pass_any σ w (c ⨾ cs) b so_far = pass_any σ w cs b (survive so_far (pass σ w c b))
 
-abbrev pub pass_several : Bool → Settings → Mode → Constraints → List Interval → Narrowed
-pass_several one σ w cs b = one_or_all one (adopt_survivors σ (pass_any σ w cs b None) b) (pass_all σ w cs b)
-
 -- ---- the same as the definition's
 -- one step of And, by two narrowings that are equal
 pub step : (x y : Narrowed) (f g : List Interval → Narrowed) → x ≡ y → ((b : List Interval) → f b ≡ g b) → continue x f ≡ continue y g

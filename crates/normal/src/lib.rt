@@ -57,7 +57,8 @@ fn dual(r: Record) -> Record
 }
 
 // ---- constraint k: its normal form, or its negation, is written from record `at` on; the answer is the number of the next record.
-// A Not is not written; any other record is, after what it takes. Two functions that call each other, as document 01 has them.
+// A Not is not written; any other record is, after what it takes. By record numbers, and two functions that call each other, as document 01
+// has them: what is written is what the record says, not what it means.
 
 #[cycle(negate_negate_all_to_nnf_to_nnf_all)]
 fn to_nnf(records: &Records, k: usize, out: &mut [u8], at: usize) -> usize
@@ -133,5 +134,5 @@ pub fn to_nnf_given(nodes: &[u8], constraints: &[u8], out: &mut [u8]) -> Result<
     if out.len() < 24 * count_kept(&records) {
         return Err(Refusal::Room);
     }
-    Ok(to_nnf(&records, records.root(), out, 0))
+    Ok(to_nnf(&records, records.constraint().root, out, 0))
 }

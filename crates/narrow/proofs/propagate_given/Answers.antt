@@ -1,7 +1,7 @@
 -- `narrow::propagate_given` meets its contract. Assumes nothing.
 use mathlib.Core.Path.{◌≡◌, sym, ◌∙◌}
 use native.Mathlib.Omega.{arith}
-use Rattle.std.proofs.Common.{◌-◌, rules, length, length-take-le}
+use Rattle.std.proofs.Common.{rules, length, length-take-le}
 use Rattle.std.proofs.lemmas.Result.{err_from_is_err_and}
 use Rattle.record.specs.RefusalLaws.{none_unless}
 use Rattle.narrow.specs.Given.{propagate_given}
@@ -34,6 +34,5 @@ returns c =
     let t = none_unless 8 _ (sym d.refusal) in
     let x = c.narrow_boxes-result in
     let n : length x.result.1.boxes ≡ 16 = search rules in
-    let root : c.root.result ≡ c.in_ok-records.records.count - 1 = omega (arith, c.root.ensures) in
     boxes_taken _ _ _ _ c.in_ok-records.ensures.constraint t
-    (answers _ _ t _ c.usual-settings.ensures (rw (root, d.value.1) at x.ensures.1) (x.ensures.0 ∙ d.value.0) (length-take-le _ _ (omega (arith, n, x.result.1.few))) c.write_ends.ensures.lo_value c.write_ends.ensures.hi_value)
+    (answers _ _ t _ c.usual.ensures (rw (c.constraint.ensures, d.value.1) at x.ensures.1) (x.ensures.0 ∙ d.value.0) (length-take-le _ _ (omega (arith, n, x.result.1.few))) c.write_ends.ensures.lo_value c.write_ends.ensures.hi_value)

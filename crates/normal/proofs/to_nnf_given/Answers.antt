@@ -17,9 +17,9 @@ returns-then-out-count_kept c =
 pub to_nnf-requires : goal.to_nnf-requires
 to_nnf-requires c =
     let w = c.in_ok-records.ensures in
-    (omega (arith, c.root.ensures), room _ _ _ w.refusal _ w.records c.count_kept.ensures.0 _ c.root.ensures c.if-out-count_kept.false)
+    (omega (arith, c.constraint.ensures.root), room _ _ _ w.refusal _ w.records c.count_kept.ensures.0 _ c.constraint.ensures.root c.if-out-count_kept.false)
 
 pub returns : goal.returns
 returns c =
     let w = c.in_ok-records.ensures in
-    wrote _ _ _ w.refusal _ w.records c.count_kept.ensures.0 _ c.root.ensures c.if-out-count_kept.false c.to_nnf.ensures
+    wrote _ _ _ w.refusal _ w.records c.count_kept.ensures.0 _ c.constraint.ensures.root c.if-out-count_kept.false c.to_nnf.ensures
