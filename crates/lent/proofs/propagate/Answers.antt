@@ -25,4 +25,4 @@ returns c =
     let d = c.in_ok-domain.ensures in
     rw (c.copy_from_slice.ensures.after, c.as_slice.ensures.0)
     (boxes_taken _ _ _ _ c.in_ok-records.ensures.constraint (none_unless 8 _ (sym d.refusal))
-    (ap (answered (λ x. x)) (rw (c.constraint.ensures, c.usual.ensures, d.value.1) at c.propagate-result.ensures.boxes)))
+    (ap (answered (λ x. x)) (rw (c.constraint.ensures.meaning, c.usual.ensures, d.value.1) at c.propagate-result.ensures.boxes)))

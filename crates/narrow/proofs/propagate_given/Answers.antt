@@ -35,4 +35,4 @@ returns c =
     let x = c.narrow_boxes-result in
     let n : length x.result.1.boxes ≡ 16 = search rules in
     boxes_taken _ _ _ _ c.in_ok-records.ensures.constraint t
-    (answers _ _ t _ c.usual.ensures (rw (c.constraint.ensures, d.value.1) at x.ensures.1) (x.ensures.0 ∙ d.value.0) (length-take-le _ _ (omega (arith, n, x.result.1.few))) c.write_ends.ensures.lo_value c.write_ends.ensures.hi_value)
+    (answers _ _ t _ c.usual.ensures (rw (c.constraint.ensures.meaning, d.value.1) at x.ensures.1) (x.ensures.0 ∙ d.value.0) (length-take-le _ _ (omega (arith, n, x.result.1.count.few))) c.write_ends.ensures.lo_value c.write_ends.ensures.hi_value)

@@ -8,7 +8,7 @@ pub loop-i-preserved : goal.loop-i-preserved
 loop-i-preserved c = record {
   room = grind (arith, common_steps);
   done =
-      hull_next _ _ _ _ _ (omega arith) (omega arith) (omega (arith, c.as_slice-left.ensures.1, c.args.a.few)) c.hull.ensures c.loop-i.invariant.done;
+      hull_next _ _ _ _ _ (omega arith) (omega arith) (omega (arith, c.as_slice-left.ensures.1, c.args.a.count.few)) c.hull.ensures c.loop-i.invariant.done;
 }
 
 pub returns : goal.returns

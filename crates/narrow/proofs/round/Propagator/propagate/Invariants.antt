@@ -7,6 +7,6 @@ use Rattle.narrow.proofs.round.Propagator.propagate.Given as goal
 
 abbrev pub invariant-loop : goal.invariant-loop
 invariant-loop l = record {
-  count : l.domain.count ≡ l.initial.domain.count;
+  count : l.domain.count.n ≡ l.initial.domain.count.n;
   going : Going l.self.settings l.self.mode (meaning l.c) (intervals_of l.initial.domain) (intervals_of l.domain) l.done l.counter;
 }
