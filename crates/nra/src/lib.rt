@@ -57,7 +57,7 @@ fn solve_in(task: &Task, bounds: &Domain, count: Count, stack: &mut Stack) -> So
 }
 
 // Where there are places for a point: else 10.
-#[tactic(auto, using(crate::proofs::Answering::placing), unfolding(crate::specs::Calls::room_refusal))]
+#[tactic(auto, using(crate::proofs::Answering::few_vars), unfolding(crate::specs::Calls::room_refusal))]
 fn solve_task(task: &Task, bounds: &Domain, room: usize) -> Result<Solved, Refusal>
     ensures { answered result ≡ answered_in task.now.settings (asked task.now) (intervals_of bounds.now) task.now.limit room }
 {
