@@ -1,5 +1,5 @@
 -- The search of a sample, the decisions and the tests of a call: their ways out, over plain values. Assumes nothing.
-use Prim.Native.Nat.{ℕ, zero, suc, ◌+◌, ◌-◌}
+use Prim.Native.Nat.{ℕ, zero, suc}
 use mathlib.Core.Path.{◌≡◌, refl, sym, ap, ◌∙◌}
 use mathlib.Core.Bool.{Bool}
 use mathlib.Core.List.{List, []}
@@ -26,7 +26,7 @@ use Rattle.file.specs.FileLaws.{given_refused, given_is}
 use Rattle.record.specs.Leaving.{◌leaving◌, same_answer}
 use Rattle.interval.specs.declared.Interval.{Interval}
 use Rattle.constraint.specs.Constraint.{Constraint, Not}
-use Rattle.constraint.specs.Views.{constraint_of, the_constraint}
+use Rattle.constraint.specs.Views.{the_constraint}
 use Rattle.normal.specs.NormalForm.{to_nnf}
 use Rattle.narrow.specs.contracts.PropResult.{the_type}
 use Rattle.narrow.specs.declared.PropResult.{PropResult}
@@ -49,15 +49,10 @@ is_met Stable = refl
 is_met Changed = refl
 is_met Conflict = refl
 
-module _ (q : Question) (k : ℕ) (last : k + 1 ≡ q.records.count) where
-  root : constraint_of q.records k ≡ the_constraint q.records
-  root = let e : k ≡ q.records.count - 1 = omega arith in ap (constraint_of q.records) e
-
-  pub refuted : {b places : List Interval} {r : PropResult} {t : Bool} → b ≡ box_of q → (r leaving places) ≡ propagate q.settings (to_nnf (Not (constraint_of q.records k))) b
-      → t ≡ sameb the_type r Conflict → t ≡ refutes q.settings (the_constraint q.records) (box_of q)
-  unfolding refutes
-  refuted {r = r} boxes narrowed met =
-      met ∙ is_met r ∙ ap is_conflict (same_answer narrowed) ∙ rw (boxes, root) refl
+pub refuted : (q : Question) {c : Constraint} {b places : List Interval} {r : PropResult} {t : Bool} → c ≡ the_constraint q.records → b ≡ box_of q
+    → (r leaving places) ≡ propagate q.settings (to_nnf (Not c)) b → t ≡ sameb the_type r Conflict → t ≡ refutes q.settings (the_constraint q.records) (box_of q)
+unfolding refutes
+refuted q {r = r} is boxes narrowed met = met ∙ is_met r ∙ ap is_conflict (same_answer narrowed) ∙ rw (boxes, is) refl
 
 -- ---- the calls
 module _ (nodes b : List ℕ) (lo hi : Float) (n room : ℕ) (decide : Constraint → QuantResult) where

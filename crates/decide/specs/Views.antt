@@ -24,10 +24,10 @@ abbrev pub passes_at : Question → Float → Bool
 passes_at q x = check q.settings (sample_of q x) (the_constraint q.records)
 
 abbrev pub for_all : Question → QuantResult
-for_all q = decide_forall q.settings q.var q.range.lo q.range.hi (the_constraint q.records) q.count
+for_all q = decide_forall q.settings q.var q.range.lo q.range.hi (the_constraint q.records) q.count.n
 
 abbrev pub exists : Question → QuantResult
-exists q = decide_exists q.settings q.var q.range.lo q.range.hi (the_constraint q.records) q.count
+exists q = decide_exists q.settings q.var q.range.lo q.range.hi (the_constraint q.records) q.count.n
 
 -- ---- an answer
 abbrev pub result_of : Verdict → QuantResult
