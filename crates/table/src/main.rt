@@ -24,12 +24,12 @@ fn is_same(solved: &Solved, head: &[u8; 176]) -> bool {
             residual,
             halvings,
             ..
-        } => (false, residual, halvings, Point::zeros(0)),
+        } => (false, residual, halvings, Point::zeros(interval::Count { n: 0 })),
     };
     let short = (head[5] == 0) & (head[6] == solved.stop_number()) & ((head[7] == 1) == exact);
     let long = (record::read_u64(head, 24) == number::bits_of(residual))
         & (record::read_u64(head, 32) == halvings as u64)
-        & (record::read_u64(head, 40) == point.count as u64);
+        & (record::read_u64(head, 40) == point.count.n as u64);
     let places = head[48..].chunks_exact(8);
     let is_same_point = point.values.iter().zip(places).all(|(x, place)| place
         == number::bits_of(*x).to_le_bytes().as_slice());
