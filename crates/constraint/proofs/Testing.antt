@@ -4,20 +4,19 @@ use mathlib.Core.Path.{◌≡◌, refl, sym, ap, ap₂, subst, ◌∙◌}
 use mathlib.Core.Bool.{Bool, true, false, ◌&&◌}
 use mathlib.Core.List.{List, [], ◌∷◌, ◌++◌, map, map-append}
 use native.Mathlib.Numerals.{add-one}
-use Rattle.std.proofs.Common.{fold, ⊎_elim, eq-or-lt_of_le, le_of_suc-le-suc, get_or-set_same, get_or-set_other}
+use Rattle.std.proofs.Common.{fold}
 use Rattle.std.proofs.lemmas.List.{length-map, take-map, drop-map}
 use native.Mathlib.Omega.{arith}
 use borrow.Author.Tests.{le-leb, lt-leb, eq-eqb, ne_eqb}
 use lib.Dec.{eqb, leb}
-use lib.ListN.{length, get_or, take, drop, set, length-drop}
+use lib.ListN.{length, get_or, take, drop, length-drop}
 use Rattle.record.specs.Refusal.{◌or_else◌, ◌unless◌, first}
 use Rattle.record.specs.Refused.{number_of}
 use Rattle.record.specs.RefusalLaws.{none_more, first_here, never_none}
 use Rattle.record.specs.declared.refusal.Refusal.{Refusal}
 use Rattle.constraint.specs.Constraint.{Formula, levels, levels_all, quantifiers, quantifiers_all}
 use Rattle.constraint.specs.Records.{record_at, is_record, is_ranged, takes, gather, none, finish, finished, formula_at, record_refusal, records_refusal}
-use Rattle.constraint.specs.Starts.{begun, start_at}
-use Rattle.constraint.specs.Code.{greatest, binds, depths, quantified, starts}
+use Rattle.constraint.specs.Code.{greatest, binds, depths, quantified}
 use Rattle.constraint.specs.declared.Record.{Record}
 use Rattle.constraint.specs.declared.stack.Finished.{Finished}
 
@@ -89,11 +88,10 @@ pub record Stacked (n : ℕ) (b : List ℕ) (k : ℕ) (s : List Finished) : Type
   pub none_yet : first (record_refusal n b) k ≡ 0
   pub depths_are : depths s ≡ map levels (finished b k)
   pub quantified_are : quantified s ≡ map quantifiers (finished b k)
-  pub starts_are : starts s ≡ begun b k
 
 pub none_stacked : (n : ℕ) (b : List ℕ) {s : List Finished} → s ≡ [] → Stacked n b 0 s
-unfolding first finished begun
-none_stacked n b e = rw e (record { none_yet = refl; depths_are = refl; quantified_are = refl; starts_are = refl })
+unfolding first finished
+none_stacked n b e = rw e (record { none_yet = refl; depths_are = refl; quantified_are = refl })
 
 module _ (n : ℕ) (b : List ℕ) (k : ℕ) (s : List Finished) (p : Stacked n b k s) where
   pub height : length (finished b k) ≡ length s
@@ -145,17 +143,6 @@ module _ (n : ℕ) (b : List ℕ) (k : ℕ) (s : List Finished) (p : Stacked n b
         quantifiers_told : binds x + greatest (quantified cs) ≡ quantifiers (formula_at b k)
         quantifiers_told = ap (λ (l : List ℕ). binds x + greatest l) (told (λ c. c.quantifiers) quantifiers p.quantified_are) ∙ sym (ap quantifiers new_is ∙ quantifiers_is x _ taken_length)
 
-        -- where it starts
-        start_base : length (begun b k) - takes (record_at b k) ≡ length s - m
-        start_base = ap₂ (λ (u w : ℕ). u - w) (ap length (sym p.starts_are) ∙ length-map s (λ (c : Finished). c.start)) (sym (im ∙ ap takes ix))
-
-        pub start_told : get_or (starts cs) 0 k ≡ start_at b k
-        unfolding start_at
-        start_told =
-            ap (λ (l : List Finished). get_or (starts l) 0 k) ec
-            ∙ ap (λ (l : List ℕ). get_or l 0 k) (sym (drop-map (λ (c : Finished). c.start) (length s - m) s))
-            ∙ ap₂ (λ (i : ℕ) (l : List ℕ). get_or (drop i l) 0 k) (sym start_base) p.starts_are
-
         module _ (ranged : is_ranged x ≡ true) where
           pub seven : record_refusal n b k ≡ Within (1 + greatest (depths cs)) (binds x + greatest (quantified cs))
           unfolding record_refusal
@@ -169,22 +156,12 @@ module _ (n : ℕ) (b : List ℕ) (k : ℕ) (s : List Finished) (p : Stacked n b
               ∙ ap₂ (λ (l : List ℕ) (i : ℕ). l ++ i ∷ []) (sym (take-map g (length s - m) s) ∙ ap (take (length s - m)) e ∙ take-map f (length s - m) (finished b k)) h
               ∙ sym (ap (map f) next_is ∙ map-append f (take (length s - m) (finished b k)) (formula_at b k ∷ []))
 
-          begun_next : (i : ℕ) → i ≡ start_at b k → take (length s - m) (begun b k) ++ i ∷ [] ≡ begun b (k + 1)
-          unfolding begun start_at
-          begun_next i e =
-              ap₂ (λ (j i : ℕ). take j (begun b k) ++ i ∷ []) (sym start_base) e
-              ∙ ap (begun b) (sym (add-one k))
-
           pub stacked : (c : Finished) → 0 ≡ Within (1 + greatest (depths cs)) (binds x + greatest (quantified cs)) → c.depth ≡ 1 + greatest (depths cs) →
-              c.quantifiers ≡ binds x + greatest (quantified cs) → c.start ≡ get_or (starts cs) 0 k → Stacked n b (k + 1) (take (length s - m) s ++ c ∷ [])
-          stacked c z d q i = record {
+              c.quantifiers ≡ binds x + greatest (quantified cs) → Stacked n b (k + 1) (take (length s - m) s ++ c ∷ [])
+          stacked c z d q = record {
             none_yet = none_more (record_refusal n b) k p.none_yet (seven ∙ sym z);
             depths_are = snoc (λ c. c.depth) levels c p.depths_are (d ∙ depth_told);
             quantified_are = snoc (λ c. c.quantifiers) quantifiers c p.quantified_are (q ∙ quantifiers_told);
-            starts_are =
-                map-append (λ (c : Finished). c.start) (take (length s - m) s) (c ∷ [])
-                ∙ ap (λ (l : List ℕ). l ++ c.start ∷ []) (sym (take-map (λ (c : Finished). c.start) (length s - m) s) ∙ ap (take (length s - m)) p.starts_are)
-                ∙ begun_next c.start (i ∙ start_told);
           }
 
 -- ---- the answer
@@ -209,11 +186,3 @@ module _ (n : ℕ) (b : List ℕ) (m k : ℕ) (s : List Finished) (p : Stacked n
   pub not_one : (length s ≡ 1 → ⊥) → 7 ≡ records_refusal n b m
   unfolding records_refusal
   not_one e = simp (at_end.none_yet, height n b m s at_end, ne_eqb _ _ e)
-
--- one more element that is written
-pub more_written : (f : ℕ → ℕ) (l : List ℕ) (k x : ℕ) → ((j : ℕ) → j < k → get_or l j 0 ≡ f j) → x ≡ f k → k < length l → (j : ℕ) → j < k + 1 → get_or (set l k x) j 0 ≡ f j
-more_written f l k x h e i j g =
-    ⊎_elim
-    (λ q. ap (λ (n : ℕ). get_or (set l k x) n 0) q ∙ get_or-set_same l k x 0 i ∙ e ∙ ap f (sym q))
-    (λ q. get_or-set_other l k j x 0 (λ z. omega arith) ∙ h j q)
-    (eq-or-lt_of_le (le_of_suc-le-suc (subst (λ (n : ℕ). j < n) (add-one k) g)))

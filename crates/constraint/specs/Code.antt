@@ -56,15 +56,12 @@ binds (Record.Or m) = 0
 binds (Record.ForAll v lo hi) = 1
 binds (Record.Exists v lo hi) = 1
 
--- of finished constraints, by what is kept of each: their depths, quantifiers and first records
+-- of finished constraints, by what is kept of each: their depths and quantifiers
 abbrev pub depths : List Finished → List ℕ
 depths cs = map (λ c. c.depth) cs
 
 abbrev pub quantified : List Finished → List ℕ
 quantified cs = map (λ c. c.quantifiers) cs
-
-abbrev pub starts : List Finished → List ℕ
-starts cs = map (λ c. c.start) cs
 
 -- one more than the highest index that it names itself, over the nodes' bytes
 abbrev pub own_vars : List ℕ → Record → ℕ

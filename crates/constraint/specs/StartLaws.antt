@@ -1,7 +1,7 @@
 -- How a formula hangs together with those that it takes, by their record numbers. Assumes nothing.
 use Prim.Native.Nat.{ℕ, zero, suc, ◌+◌, ◌-◌, ◌≤◌, ◌<◌}
 use Rattle.std.specs.Prelude.{◌≡◌}
-use Rattle.std.proofs.Math.Path.{refl, sym, ap, subst}
+use Rattle.std.proofs.Math.Path.{refl, sym, ap, ap₂, subst}
 use Rattle.std.proofs.Common.{◌∙◌, le_of_suc-le-suc, not-suc-le-zero, eq-or-lt_of_le, le_refl, add-one, length-drop, take_all}
 use Rattle.std.proofs.Math.Logic.{⊎_elim}
 use mathlib.Core.List.{List, [], ◌∷◌, ◌++◌}
@@ -84,54 +84,100 @@ module _ (b : List ℕ) where
   unfolding base
   height_is k = ap length (finished_is k) ∙ length-append (take (base k) (finished b k)) _ ∙ omega (arith, length-take (base k) (finished b k))
 
-  Back : ℕ → Type 0
-  Back k = (j : ℕ) → j < length (finished b k) → finished b (get_or (begun b k) j 0) ≡ take j (finished b k)
+  -- a list that grows as they do: what it was where the j-th starts is its first j
+  module _ {A : Type 0} (grown : ℕ → List A) (new : ℕ → A) (grows : (k : ℕ) → grown (suc k) ≡ take (base k) (grown k) ++ new k ∷ []) (high : (k : ℕ) → length (grown k) ≡ length (finished b k)) where
+    Back : ℕ → Type 0
+    Back k = (j : ℕ) → j < length (finished b k) → grown (get_or (begun b k) j 0) ≡ take j (grown k)
 
-  start_from : (k : ℕ) → Back k → finished b (start_at b k) ≡ take (base k) (finished b k)
-  unfolding Back base
-  start_from k back =
-      let f = finished b k in
-      let g = begun b k in
-      let i : base k ≤ length f = omega arith in
-      ⊎_elim
-      (λ e.
-      ap (finished b) (start_is k ∙ ap (λ (l : List ℕ). get_or l 0 k) (drop_of_length-le g {i = base k} (omega (arith, same_height k))))
-      ∙ sym (take_all (base k) f (omega arith)))
-      (λ l.
-      ap (finished b) (start_is k ∙ get_or-drop (base k) g 0 k ∙ ap (λ (n : ℕ). get_or g n k) (omega arith) ∙ any g (base k) k 0 (omega (arith, same_height k)))
-      ∙ back (base k) l)
-      (eq-or-lt_of_le i)
-    where
-      any : (l : List ℕ) (i d e : ℕ) → i < length l → get_or l i d ≡ get_or l i e
-      any [] i d e h = absurd (not-suc-le-zero h)
-      any (x ∷ xs) zero d e h = refl
-      any (x ∷ xs) (suc i) d e h = any xs i d e (le_of_suc-le-suc h)
+    start_from : (k : ℕ) → Back k → grown (start_at b k) ≡ take (base k) (grown k)
+    unfolding Back base
+    start_from k back =
+        let g = begun b k in
+        let i : base k ≤ length (finished b k) = omega arith in
+        ⊎_elim
+        (λ e.
+        ap grown (start_is k ∙ ap (λ (l : List ℕ). get_or l 0 k) (drop_of_length-le g {i = base k} (omega (arith, same_height k))))
+        ∙ sym (take_all (base k) (grown k) (omega (arith, high k))))
+        (λ l.
+        ap grown (start_is k ∙ get_or-drop (base k) g 0 k ∙ ap (λ (n : ℕ). get_or g n k) (omega arith) ∙ any g (base k) k 0 (omega (arith, same_height k)))
+        ∙ back (base k) l)
+        (eq-or-lt_of_le i)
+      where
+        any : (l : List ℕ) (i d e : ℕ) → i < length l → get_or l i d ≡ get_or l i e
+        any [] i d e h = absurd (not-suc-le-zero h)
+        any (x ∷ xs) zero d e h = refl
+        any (x ∷ xs) (suc i) d e h = any xs i d e (le_of_suc-le-suc h)
 
-  back : (k : ℕ) → Back k
-  unfolding Back finished
-  back zero j h = absurd (not-suc-le-zero h)
-  back (suc k) j h =
-      let f = finished b k in
-      let g = begun b k in
-      let lf : length (take (base k) f) ≡ base k = length-take-le (base k) f (base_le k) in
-      let lg : length (take (base k) g) ≡ base k = length-take-le (base k) g (omega (arith, same_height k, base_le k)) in
-      let hj : j < base k + 1 = subst (λ (n : ℕ). j < n) (height_is k) h in
-      ⊎_elim
-      (λ e.
-      ap (λ (l : List ℕ). finished b (get_or l j 0)) (begun_is k)
-      ∙ ap (finished b) (get_or_at (take (base k) g) (start_at b k) [] 0 j (lg ∙ sym e))
-      ∙ start_from k (back k)
-      ∙ sym (ap (take j) (finished_is k) ∙ take_at (take (base k) f) (formula_at b k ∷ []) j (lf ∙ sym e)))
-      (λ l.
-      ap (λ (l : List ℕ). finished b (get_or l j 0)) (begun_is k)
-      ∙ ap (finished b) (get_or-append (take (base k) g) _ 0 j (omega arith) ∙ get_or-take (base k) g j 0 l)
-      ∙ back k j (omega (arith, base_le k))
-      ∙ sym (ap (take j) (finished_is k) ∙ take-append-le j (take (base k) f) _ (omega arith) ∙ take-take j (base k) f (omega arith)))
-      (eq-or-lt_of_le (le_of_suc-le-suc (subst (λ (n : ℕ). j < n) (add-one (base k)) hj)))
+    back : (k : ℕ) → Back k
+    unfolding Back finished
+    back zero j h = absurd (not-suc-le-zero h)
+    back (suc k) j h =
+        let f = grown k in
+        let g = begun b k in
+        let lf : length (take (base k) f) ≡ base k = length-take-le (base k) f (omega (arith, high k, base_le k)) in
+        let lg : length (take (base k) g) ≡ base k = length-take-le (base k) g (omega (arith, same_height k, base_le k)) in
+        let hj : j < base k + 1 = subst (λ (n : ℕ). j < n) (height_is k) h in
+        ⊎_elim
+        (λ e.
+        ap (λ (l : List ℕ). grown (get_or l j 0)) (begun_is k)
+        ∙ ap grown (get_or_at (take (base k) g) (start_at b k) [] 0 j (lg ∙ sym e))
+        ∙ start_from k (back k)
+        ∙ sym (ap (take j) (grows k) ∙ take_at (take (base k) f) (new k ∷ []) j (lf ∙ sym e)))
+        (λ l.
+        ap (λ (l : List ℕ). grown (get_or l j 0)) (begun_is k)
+        ∙ ap grown (get_or-append (take (base k) g) _ 0 j (omega arith) ∙ get_or-take (base k) g j 0 l)
+        ∙ back k j (omega (arith, base_le k))
+        ∙ sym (ap (take j) (grows k) ∙ take-append-le j (take (base k) f) _ (omega arith) ∙ take-take j (base k) f (omega arith)))
+        (eq-or-lt_of_le (le_of_suc-le-suc (subst (λ (n : ℕ). j < n) (add-one (base k)) hj)))
+
+    links : (k : ℕ) → grown (suc k) ≡ grown (start_at b k) ++ new k ∷ []
+    links k = grows k ∙ ap (λ (l : List A). l ++ new k ∷ []) (sym (start_from k (back k)))
 
   -- what is finished before record k + 1 is what was finished where formula k starts, and then formula k
   pub chain : (k : ℕ) → finished b (suc k) ≡ finished b (start_at b k) ++ formula_at b k ∷ []
-  chain k = finished_is k ∙ ap (λ (l : List (Formula ℕ)). l ++ formula_at b k ∷ []) (sym (start_from k (back k)))
+  chain k = links (finished b) (formula_at b) finished_is (λ j. refl) k
+
+  -- and so for the starts
+  begun_chain : (k : ℕ) → begun b (suc k) ≡ begun b (start_at b k) ++ start_at b k ∷ []
+  begun_chain k = links (begun b) (start_at b) begun_is same_height k
+
+  -- where the last m that are finished before record k start
+  pub start_before : ℕ → ℕ → ℕ
+  start_before zero k = k
+  start_before (suc m) zero = zero
+  start_before (suc m) (suc k) = start_before m (start_at b k)
+
+  -- that of what a record takes is found one by one
+  start_taken : (m k : ℕ) → m ≤ length (begun b k) → get_or (drop (length (begun b k) - m) (begun b k)) 0 k ≡ start_before m k
+  unfolding start_before begun
+  start_taken zero k h = ap (λ (l : List ℕ). get_or l 0 k) (drop_of_length-le (begun b k) {i = length (begun b k) - 0} (omega arith))
+  start_taken (suc m) zero h = absurd (not-suc-le-zero h)
+  start_taken (suc m) (suc k) h =
+      let G = begun b (start_at b k) in
+      let n : length (begun b (suc k)) ≡ length G + 1 = ap length (begun_chain k) ∙ length-append G (start_at b k ∷ []) in
+      let i : length (begun b (suc k)) - suc m ≡ length G - m = omega (arith, n) in
+      ap (λ (i : ℕ). get_or (drop i (begun b (suc k))) 0 (suc k)) i
+      ∙ ap (λ (l : List ℕ). get_or (drop (length G - m) l) 0 (suc k)) (begun_chain k)
+      ∙ ap (λ (l : List ℕ). get_or l 0 (suc k)) (drop-append-le (length G - m) G (start_at b k ∷ []) (omega arith))
+      ∙ head (drop (length G - m) G) (start_at b k) (suc k)
+      ∙ start_taken m (start_at b k) (omega (arith, n))
+    where
+      head : (l : List ℕ) (s d : ℕ) → get_or (l ++ s ∷ []) 0 d ≡ get_or l 0 s
+      head [] s d = refl
+      head (x ∷ xs) s d = refl
+
+  pub start_of : (k : ℕ) → takes (record_at b k) ≤ length (finished b k) → start_before (takes (record_at b k)) k ≡ start_at b k
+  unfolding start_at
+  start_of k h = sym (start_taken (takes (record_at b k)) k (omega (arith, same_height k)))
+
+  pub start_none : (k : ℕ) → start_before 0 k ≡ k
+  unfolding start_before
+  start_none k = refl
+
+  pub start_next : (m k : ℕ) → 0 < m → 0 < k → start_before m k ≡ start_before (m - 1) (start_at b (k - 1))
+  start_next zero k h g = absurd (omega arith)
+  start_next (suc m) zero h g = absurd (omega arith)
+  start_next (suc m) (suc k) h g = unfold start_before in ap₂ (λ (i j : ℕ). start_before i (start_at b j)) (omega arith) (omega arith)
 
   -- so those that a record takes are found by the numbers where they start
   taken : (m k : ℕ) → m ≤ length (finished b k) → drop (length (finished b k) - m) (finished b k) ≡ formulas_to b m k

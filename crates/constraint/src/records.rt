@@ -1,33 +1,31 @@
 // Constraint records that passed their tests (document 01, "The file").
-ghost use Rattle.std.specs.Prelude.{◌≡◌, ◌+◌, ◌/◌, ◌≤◌, ◌<◌, ◌&&◌, leb, length, get_or, IfOk};
+ghost use Rattle.std.specs.Prelude.{◌≡◌, ◌+◌, ◌/◌, ◌≤◌, ◌<◌, ◌&&◌, leb, length, IfOk};
 ghost use Rattle.record.specs.Refusal.{◌unless◌};
 ghost use Rattle.record.specs.Refused.{refusal_of};
 ghost use Rattle.tree.specs.Nodes.{Valid};
 ghost use Rattle.constraint.specs.Records.{records_refusal};
 ghost use Rattle.constraint.specs.Starts.{Ready};
-ghost use Rattle.constraint.specs.Code.{binds, greatest, depths, quantified, starts};
+ghost use Rattle.constraint.specs.Code.{binds, greatest, depths, quantified};
 
 use crate::stack::{Finished, Stack};
 use crate::{EmlConstraint, Record, is_ranged, is_record, quantifier_of, record_in, taken_by};
 use record::Refusal;
 use tree::EmlTree;
 
-// They stand over nodes that passed too; `starts` has the first record of each constraint.
+// They stand over nodes that passed too.
 #[derive(Drop)]
 pub struct Records<'a> {
     pub nodes: &'a [u8],
     pub constraints: &'a [u8],
-    pub starts: [u8; 256],
     pub count: usize,
-    pub ghost ready: { Ready nodes.now constraints.now count starts },
+    pub ghost ready: { Ready nodes.now constraints.now count },
 }
 
-// What record number k finishes, from those that it takes: 7.
-fn finish(k: u8, r: Record, taken: &[Finished]) -> Result<Finished, Refusal>
+// What a record finishes, from those that it takes: 7.
+fn finish(r: Record, taken: &[Finished]) -> Result<Finished, Refusal>
     ensures refusal { refusal_of result ≡ 7 unless leb (1 + greatest (depths taken.now)) 16 && leb (binds r + greatest (quantified taken.now)) 4 }
     ensures depth { IfOk result (λ c. c.depth ≡ 1 + greatest (depths taken.now)) }
     ensures quantifiers { IfOk result (λ c. c.quantifiers ≡ binds r + greatest (quantified taken.now)) }
-    ensures start { IfOk result (λ c. c.start ≡ get_or (starts taken.now) 0 k) }
 {
     let deepest = taken.iter().map(|c| c.depth).max().unwrap_or(0);
     let most = taken.iter().map(|c| c.quantifiers).max().unwrap_or(0);
@@ -39,12 +37,10 @@ fn finish(k: u8, r: Record, taken: &[Finished]) -> Result<Finished, Refusal>
     Ok(Finished {
         depth: depth as u8,
         quantifiers: quantifiers as u8,
-        start: taken.first().map_or(k, |c| c.start),
     })
 }
 
 impl<'a> Records<'a> {
-    ghost use Rattle.constraint.specs.Starts.{start_at};
     ghost use Rattle.constraint.specs.Views.{the_constraint, meaning};
     ghost use Rattle.tree.specs.Nodes.{tree_at};
     ghost use Rattle.tree.specs.Views.{the_tree};
@@ -57,7 +53,6 @@ impl<'a> Records<'a> {
         ensures records { IfOk result (λ r. (r.nodes.now ≡ nodes.now) × (r.constraints.now ≡ constraints.now) × (r.count ≡ length constraints.now / 24)) }
     {
         let count = constraints.len() / 24;
-        let mut starts = [0u8; 256];
         let mut stack = Stack::new();
         for k in 0..count {
             if !is_record(constraints, k, nodes.len() / 16) {
@@ -71,9 +66,7 @@ impl<'a> Records<'a> {
             if !is_ranged(r) {
                 return Err(Refusal::Range);
             }
-            let new = finish(k as u8, r, stack.last(m))?;
-            starts[k] = new.start;
-            stack.replace(m, new);
+            stack.replace(m, finish(r, stack.last(m))?);
         }
         if stack.height() != 1 {
             return Err(Refusal::Shape);
@@ -81,7 +74,6 @@ impl<'a> Records<'a> {
         Ok(Records {
             nodes,
             constraints,
-            starts,
             count,
         })
     }
@@ -95,14 +87,6 @@ impl<'a> Records<'a> {
             records: self,
             root: self.count - 1,
         }
-    }
-
-    // The first record of constraint k.
-    pub fn start(&self, k: usize) -> usize
-        requires { k < self.now.count }
-        ensures { result ≡ start_at self.now.constraints.now k }
-    {
-        usize::from(self.starts[k])
     }
 
     // The tree of node i.

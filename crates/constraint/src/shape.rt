@@ -4,7 +4,7 @@
 ghost use Rattle.std.specs.Prelude.{◌≡◌, ◌≤◌, ◌<◌, ◌++◌, [], ◌∷◌, length, IfSome, IfNone};
 ghost use Rattle.constraint.specs.Records.{finished};
 
-use crate::{Record, Records, Relation, record_in};
+use crate::{Record, Records, Relation, record_in, taken_by};
 use tree::EmlTree;
 
 // The constraint that record `root` finishes.
@@ -37,6 +37,7 @@ pub enum Shape<'a> {
 
 impl<'a> EmlConstraint<'a> {
     ghost use Rattle.constraint.specs.Constraint.{num_vars};
+    ghost use Rattle.constraint.specs.Starts.{start_at};
     ghost use Rattle.constraint.specs.Views.{meaning, shape_meaning, Below};
 
     pub fn shape(self) -> Shape<'a>
@@ -81,6 +82,22 @@ impl<'a> EmlConstraint<'a> {
         }
     }
 
+    // Its first record: that of the oldest that it takes, or its own.
+    fn start(self) -> usize
+        ensures { result ≡ start_at self.entry.records.now.constraints.now self.entry.root }
+    {
+        let EmlConstraint { records, root } = self;
+        let mut start = root;
+        for _ in 0..taken_by(record_in(records.constraints, root)) {
+            let last = EmlConstraint {
+                records,
+                root: start - 1,
+            };
+            start = last.start();
+        }
+        start
+    }
+
     // The number of its variables.
     #[cycle(num_vars)]
     pub fn num_vars(self) -> usize
@@ -110,13 +127,16 @@ impl<'a> Operands<'a> {
             return None;
         }
         let records = self.records;
-        let root = self.end - 1;
+        let last = EmlConstraint {
+            records,
+            root: self.end - 1,
+        };
         let before = Operands {
             records,
             count: self.count - 1,
-            end: records.start(root),
+            end: last.start(),
         };
-        Some((EmlConstraint { records, root }, before))
+        Some((last, before))
     }
     // The most variables that one of them has.
     #[cycle(num_vars)]

@@ -3,12 +3,11 @@ ghost use Rattle.std.specs.Prelude.{◌≡◌, ◌-◌, ◌≤◌, ◌<◌, ◌+
 
 use std::marker::Model;
 
-// A constraint's depth, the most quantifiers on a path of it, and its first record.
+// A constraint's depth, and the most quantifiers on a path of it.
 #[derive(Clone, Copy)]
 pub struct Finished {
     pub depth: u8,
     pub quantifiers: u8,
-    pub start: u8,
 }
 
 #[derive(Drop)]
@@ -36,7 +35,6 @@ impl Stack {
         let none = Finished {
             depth: 0,
             quantifiers: 0,
-            start: 0,
         };
         Stack {
             items: [none; 256],

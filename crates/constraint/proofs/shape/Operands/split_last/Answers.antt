@@ -6,14 +6,11 @@ use Rattle.constraint.proofs.shape.Operands.split_last.Goals as goal
 pub returns-then-self-eq0-clause-none : goal.returns-then-self-eq0-clause-none
 returns-then-self-eq0-clause-none c = none_taken c.args.self.records.now _ _ (record { within = c.args.self.within; enough = c.args.self.enough }) c.if-self-eq0.true
 
-pub overflow_sub-root : goal.overflow_sub-root
-overflow_sub-root c = some c.args.self.records.now _ _ (record { within = c.args.self.within; enough = c.args.self.enough }) c.if-self-eq0.false
+pub overflow_sub-last : goal.overflow_sub-last
+overflow_sub-last c = some c.args.self.records.now _ _ (record { within = c.args.self.within; enough = c.args.self.enough }) c.if-self-eq0.false
 
-pub start-requires : goal.start-requires
-start-requires c = last c.args.self.records.now _ _ (record { within = c.args.self.within; enough = c.args.self.enough }) c.if-self-eq0.false
-
-pub invariant_of-result : goal.invariant_of-result
-invariant_of-result c = record { inside = last c.args.self.records.now _ _ (record { within = c.args.self.within; enough = c.args.self.enough }) c.if-self-eq0.false }
+pub invariant_of-last : goal.invariant_of-last
+invariant_of-last c = record { inside = last c.args.self.records.now _ _ (record { within = c.args.self.within; enough = c.args.self.enough }) c.if-self-eq0.false }
 
 pub invariant_of-before : goal.invariant_of-before
 invariant_of-before c = let t = before_last c.args.self.records.now _ _ (record { within = c.args.self.within; enough = c.args.self.enough }) c.if-self-eq0.false _ c.start.ensures in record { within = t.within; enough = t.enough }
