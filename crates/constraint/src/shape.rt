@@ -83,7 +83,7 @@ impl<'a> EmlConstraint<'a> {
     }
 
     // Its first record: that of the oldest that it takes, or its own.
-    fn start(self) -> usize
+    pub fn start(self) -> usize
         ensures { result ≡ start_at self.entry.records.now.constraints.now self.entry.root }
     {
         let EmlConstraint { records, root } = self;

@@ -12,7 +12,7 @@ ghost use Rattle.normal.specs.Written.{dual_of, nnf_at, negation_at, nnf_all, ne
 ghost use Rattle.normal.specs.Given.{kept_of, count_kept, to_nnf_given};
 ghost use Rattle.record.specs.Views.{old, final};
 
-use constraint::{Record, Records, Relation};
+use constraint::{EmlConstraint, Record, Records, Relation};
 use record::Refusal;
 
 pub fn opposite(relation: Relation) -> Relation
@@ -95,9 +95,12 @@ fn to_nnf_all(records: &Records, m: usize, n: usize, out: &mut [u8], at: usize) 
     if m == 0 {
         return at;
     }
-    let last = n - 1;
-    let next = to_nnf_all(records, m - 1, records.start(last), out, at);
-    to_nnf(records, last, out, next)
+    let last = EmlConstraint {
+        records: &*records,
+        root: n - 1,
+    };
+    let next = to_nnf_all(records, m - 1, last.start(), out, at);
+    to_nnf(records, last.root, out, next)
 }
 
 #[cycle(negate_negate_all_to_nnf_to_nnf_all)]
@@ -108,9 +111,12 @@ fn negate_all(records: &Records, m: usize, n: usize, out: &mut [u8], at: usize) 
     if m == 0 {
         return at;
     }
-    let last = n - 1;
-    let next = negate_all(records, m - 1, records.start(last), out, at);
-    negate(records, last, out, next)
+    let last = EmlConstraint {
+        records: &*records,
+        root: n - 1,
+    };
+    let next = negate_all(records, m - 1, last.start(), out, at);
+    negate(records, last.root, out, next)
 }
 
 // ---- the call on records that are given

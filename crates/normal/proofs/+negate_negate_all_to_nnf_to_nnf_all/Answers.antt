@@ -46,8 +46,8 @@ negate_all-returns-then-m-eq0 t c = puts_is (negation_none c.args.records.now _ 
 pub negate_all-overflow_sub-last : goal.negate_all-overflow_sub-last
 negate_all-overflow_sub-last t c = omega (arith, some c.args.records.now _ _ c.requires.0 c.if-m-eq0.false)
 
-pub negate_all-start-requires : goal.negate_all-start-requires
-negate_all-start-requires t c = last c.args.records.now _ _ c.requires.0 c.if-m-eq0.false
+pub negate_all-invariant_of-last : goal.negate_all-invariant_of-last
+negate_all-invariant_of-last t c = record { inside = last c.args.records.now _ _ c.requires.0 c.if-m-eq0.false }
 
 pub negate_all-negate_all-next-requires : goal.negate_all-negate_all-next-requires
 negate_all-negate_all-next-requires t c =
@@ -109,8 +109,8 @@ to_nnf_all-returns-then-m-eq0 t c = puts_is (nnf_none c.args.records.now _ _ c.r
 pub to_nnf_all-overflow_sub-last : goal.to_nnf_all-overflow_sub-last
 to_nnf_all-overflow_sub-last t c = omega (arith, some c.args.records.now _ _ c.requires.0 c.if-m-eq0.false)
 
-pub to_nnf_all-start-requires : goal.to_nnf_all-start-requires
-to_nnf_all-start-requires t c = last c.args.records.now _ _ c.requires.0 c.if-m-eq0.false
+pub to_nnf_all-invariant_of-last : goal.to_nnf_all-invariant_of-last
+to_nnf_all-invariant_of-last t c = record { inside = last c.args.records.now _ _ c.requires.0 c.if-m-eq0.false }
 
 pub to_nnf_all-to_nnf_all-next-requires : goal.to_nnf_all-to_nnf_all-next-requires
 to_nnf_all-to_nnf_all-next-requires t c =
