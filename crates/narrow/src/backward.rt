@@ -5,7 +5,7 @@ ghost use Rattle.std.specs.Prelude.{◌≡◌};
 ghost use Rattle.tree.specs.Views.{the_tree};
 ghost use Rattle.record.specs.Leaving.{◌leaving◌};
 ghost use Rattle.record.specs.Views.{old, final};
-ghost use Rattle.narrow.specs.Narrowing.{eval_interval, left_of, ask as ask_of, demand as demand_of, ask_both, fixed_at, narrow_var, backward};
+ghost use Rattle.narrow.specs.Narrowing.{left_of, ask as ask_of, ask_both, fixed_at, narrow_var, backward};
 ghost use Rattle.narrow.specs.Aiming.{common_of};
 
 use crate::PropResult;
@@ -77,18 +77,6 @@ fn narrow_var(i: usize, settings: Settings, out: Interval, boxes: &mut [Interval
     PropResult::Changed
 }
 
-// What an Eml of two trees, which is to lie in out, asks of them.
-fn demand_of(
-    left: EmlTree,
-    right: EmlTree,
-    out: Interval,
-    boxes: &[Interval],
-) -> Result<Pair, PropResult>
-    ensures { result ≡ demand_of (eval_interval boxes.now (the_tree left.entry)) (eval_interval boxes.now (the_tree right.entry)) out }
-{
-    ask(out, eml_children(left, right, boxes)?)
-}
-
 // The tree is to lie in out.
 #[cycle(backward)]
 pub fn backward_propagate(
@@ -107,7 +95,7 @@ pub fn backward_propagate(
         Node::Const(v) => fixed_at(v, out),
         Node::Var(i) => narrow_var(i, settings, out, boxes),
         Node::Eml(left, right) => {
-            let demand = demand_of(left, right, out, boxes);
+            let demand = eml_children(left, right, boxes).and_then(|c| ask(out, c));
             backward_both(left, right, settings, demand, boxes)
         }
     }
