@@ -1,5 +1,5 @@
 // Backward: what a node's value is to lie in is passed on to its children, down to the variables.
-#![tactic(auto, using(crate::proofs::Choices::choices, crate::proofs::Choices::back_empty), unfolding(crate::specs::Narrowing::left_of, crate::specs::Narrowing::ask, crate::specs::Narrowing::fixed_at, crate::specs::Narrowing::narrow_var, crate::specs::Narrowing::demand, crate::specs::Narrowing::backward, crate::specs::Narrowing::ask_both, crate::specs::Aiming::common_of))]
+#![tactic(auto, using(crate::proofs::Choices::choices, crate::proofs::Choices::back_empty), unfolding(crate::specs::Narrowing::left_of, crate::specs::Narrowing::fixed_at, crate::specs::Narrowing::narrow_var, crate::specs::Narrowing::demand, crate::specs::Narrowing::backward, crate::specs::Narrowing::ask_both, crate::specs::Aiming::common_of))]
 
 ghost use Rattle.std.specs.Prelude.{◌≡◌};
 ghost use Rattle.tree.specs.Views.{the_tree};
@@ -36,6 +36,7 @@ fn left_of(l: Interval, range: Interval) -> Interval
 }
 
 // What an Eml that is to lie in out asks of its children, or answers at once: out = exp(left) - ln(right).
+#[tactic(auto, using(crate::proofs::Choices::choices), unfolding(crate::specs::Narrowing::ask, crate::specs::Aiming::common_of))]
 pub fn ask(out: Interval, c: Children) -> Result<Pair, PropResult>
     ensures { result ≡ ask_of out c }
 {

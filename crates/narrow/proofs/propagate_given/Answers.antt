@@ -1,9 +1,11 @@
 -- `narrow::propagate_given` meets its contract. Assumes nothing.
+use mathlib.Core.Bool.{true}
 use mathlib.Core.Path.{◌≡◌, sym, ◌∙◌}
 use native.Mathlib.Omega.{arith}
 use Rattle.std.proofs.Common.{rules, length, length-take-le}
 use Rattle.std.proofs.lemmas.Result.{err_from_is_err_and}
 use Rattle.record.specs.RefusalLaws.{none_unless}
+use Rattle.interval.specs.Boxes.{are_boxes}
 use Rattle.narrow.specs.Given.{propagate_given}
 use Rattle.narrow.specs.GivenLaws.{records_refused, boxes_refused, boxes_taken}
 use Rattle.narrow.proofs.Given.{paired, answers}
@@ -31,7 +33,7 @@ pub returns : goal.returns
 unfolding propagate_given
 returns c =
     let d = c.in_ok-domain.ensures in
-    let t = none_unless 8 _ (sym d.refusal) in
+    let t : are_boxes c.args.lo.now c.args.hi.now ≡ true = none_unless 8 _ (sym d.refusal) in
     let x = c.narrow_boxes-result in
     let n : length x.result.1.boxes ≡ 16 = search rules in
     boxes_taken _ _ _ _ c.in_ok-records.ensures.constraint t
