@@ -154,18 +154,14 @@ impl Propagator {
                 };
                 under.propagate_once(inside, domain)
             }
-            Shape::And(cs) => {
-                if self.mode == Mode::Negated {
-                    return self.narrow_any(cs, domain);
-                }
-                self.narrow_all(cs, domain)
-            }
-            Shape::Or(cs) => {
-                if self.mode == Mode::Negated {
-                    return self.narrow_all(cs, domain);
-                }
-                self.narrow_any(cs, domain)
-            }
+            Shape::And(cs) => match self.mode {
+                Mode::Written | Mode::Normal => self.narrow_all(cs, domain),
+                Mode::Negated => self.narrow_any(cs, domain),
+            },
+            Shape::Or(cs) => match self.mode {
+                Mode::Written | Mode::Normal => self.narrow_any(cs, domain),
+                Mode::Negated => self.narrow_all(cs, domain),
+            },
             Shape::ForAll(_, _, _, _) | Shape::Exists(_, _, _, _) => PropResult::Stable,
         }
     }
