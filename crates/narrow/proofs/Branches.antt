@@ -86,3 +86,5 @@ module _ (σ : Settings) where
 
     pub adopt_ends : (length H ≤ i) ⊎ (length B ≤ i) → (r leaving B) ≡ adopt σ H B₀
     adopt_ends h = rw (all_done h, worse_stable, take-append-drop) at p.whole
+
+pub ruleset adopting = (adopt_begins, adopt_ends)

@@ -51,6 +51,7 @@ impl From<PropResult> for u8 {
 
 impl Propagator {
     // In rounds until nothing changes or a Conflict, at most as many as the settings say.
+    #[tactic(auto, using(crate::proofs::Rounds::ends))]
     pub fn propagate(self, c: EmlConstraint, domain: &mut Domain) -> PropResult
         ensures count { domain.new.count ≡ domain.old.count }
         ensures boxes { (result leaving intervals_of (final domain)) ≡ propagate_of self.settings (in_mode self.mode (meaning c.entry)) (intervals_of (old domain)) }

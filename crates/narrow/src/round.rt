@@ -21,6 +21,7 @@ use tree::EmlTree;
 // ---- the branches of an Or
 
 // The hull of each pair of boxes. By number, as in `adopt`: of what is written through an adapter of `iter_mut` the checker knows nothing.
+#[tactic(auto, using(std::proofs::lemmas::Grind::common_steps, crate::proofs::Branches::hulls_length))]
 fn hull_boxes(a: Domain, b: Domain) -> Domain
     ensures { intervals_of result ≡ hulls (intervals_of a) (intervals_of b) }
 {
@@ -59,6 +60,7 @@ fn tighten(settings: Settings, hull: Interval, b: &mut Interval) -> PropResult
     PropResult::Stable
 }
 
+#[tactic(auto, using(crate::proofs::Branches::adopting))]
 fn adopt(settings: Settings, hull: &[Interval], boxes: &mut [Interval]) -> PropResult
     ensures { (result leaving final boxes) ≡ adopt_of settings hull.now (old boxes) }
 {
