@@ -10,12 +10,6 @@ use Rattle.narrow.specs.GivenLaws.{boxes_taken}
 use Rattle.narrow.proofs.Given.{paired, answers}
 use Rattle.narrow.proofs.propagate_given.Goals as goal
 
-pub write_ends-requires : goal.write_ends-requires
-write_ends-requires c =
-    let d = c.in_ok-domain.ensures in
-    let n = c.narrow_boxes-result.ensures.0 in
-    (omega arith, omega (arith, paired _ _ (none_unless 8 _ (sym d.refusal))))
-
 pub returns : goal.returns
 unfolding propagate_given
 returns c =
