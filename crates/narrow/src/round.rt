@@ -71,7 +71,7 @@ fn adopt(settings: Settings, hull: &[Interval], boxes: &mut [Interval]) -> PropR
     result
 }
 
-// On a copy of the list: the checker lends no part of one beside a ghost field, and knows that it has n places by `as_slice`.
+// On a copy of the list, since the checker lends no part of one that has a ghost field beside it. It knows by `as_slice` that there are n places.
 fn adopt_survivors(settings: Settings, survivors: Option<Domain>, domain: &mut Domain) -> PropResult
     ensures count { domain.new.count ≡ domain.old.count }
     ensures boxes { (result leaving intervals_of (final domain)) ≡ adopt_survivors settings (option_map intervals_of survivors) (intervals_of (old domain)) }
@@ -91,7 +91,7 @@ fn adopt_survivors(settings: Settings, survivors: Option<Domain>, domain: &mut D
 // ---- constraints
 
 // How a constraint is taken: as it is written, its normal form, its negation.
-#[derive(Clone, Copy, PartialEq, Eq)]
+#[derive(Clone, Copy)]
 pub enum Mode {
     Written,
     Normal,
@@ -112,10 +112,10 @@ impl Mode {
     fn relation(self, relation: Relation) -> Relation
         ensures { result ≡ relation_in self relation }
     {
-        if self == Mode::Negated {
-            return normal::opposite(relation);
+        match self {
+            Mode::Written | Mode::Normal => relation,
+            Mode::Negated => normal::opposite(relation),
         }
-        relation
     }
 }
 
@@ -140,7 +140,7 @@ impl Propagator {
         result
     }
 
-    // Under a Not the Rust narrows by the normal form of what is inside: the mode says so, and nothing is built.
+    // A round. Under a Not the Rust narrows by the normal form of what is inside: the mode says so, and nothing is built.
     #[tactic(auto, unfolding(crate::specs::Modes::pass))]
     #[cycle(round)]
     pub fn propagate_once(self, c: EmlConstraint, domain: &mut Domain) -> PropResult

@@ -7,7 +7,7 @@ use Rattle.record.specs.RefusalLaws.{none_unless}
 use Rattle.interval.specs.Boxes.{are_boxes}
 use Rattle.narrow.specs.Given.{propagate_given}
 use Rattle.narrow.specs.GivenLaws.{boxes_taken}
-use Rattle.narrow.proofs.Given.{paired, answers}
+use Rattle.narrow.proofs.Given.{answers}
 use Rattle.narrow.proofs.propagate_given.Goals as goal
 
 pub returns : goal.returns
