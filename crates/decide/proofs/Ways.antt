@@ -56,7 +56,7 @@ as_wanted true false = refl
 as_wanted false true = refl
 as_wanted false false = refl
 
-is_met : (r : PropResult) → sameb the_type r Conflict ≡ is_conflict r
+pub is_met : (r : PropResult) → sameb the_type r Conflict ≡ is_conflict r
 is_met Stable = refl
 is_met Changed = refl
 is_met Conflict = refl
@@ -69,12 +69,6 @@ module _ (q : Question) (k : ℕ) (last : k + 1 ≡ q.records.count) where
       → beq passes wanted ≡ t → answers_at q wanted x ≡ t
   tested wanted x there {passes} checked e =
       sym (ap (answers_as wanted) (checked ∙ rw (there, root) refl)) ∙ sym (as_wanted wanted passes) ∙ e
-
-  pub refuted : {b places : List Interval} {r : PropResult} {t : Bool} → b ≡ box_of q → (r leaving places) ≡ propagate q.settings (to_nnf (Not (constraint_of q.records k))) b
-      → t ≡ sameb the_type r Conflict → t ≡ refutes q.settings (the_constraint q.records) (box_of q)
-  unfolding refutes
-  refuted {r = r} boxes narrowed met =
-      met ∙ is_met r ∙ ap is_conflict (same_answer narrowed) ∙ rw (boxes, root) refl
 
 module _ (q : Question) where
   module _ {r : Bool} (met : r ≡ refutes q.settings (the_constraint q.records) (box_of q)) where
