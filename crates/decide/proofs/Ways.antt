@@ -44,15 +44,10 @@ first test u {r = r} listed ran each =
     sym (option_map_id r) ∙ find_from_yields_List test _ _ r ran k each ∙ ap (find test) listed
 
 -- ---- a decision
-is_met : (r : PropResult) → sameb the_type r Conflict ≡ is_conflict r
+pub is_met : (r : PropResult) → sameb the_type r Conflict ≡ is_conflict r
 is_met Stable = refl
 is_met Changed = refl
 is_met Conflict = refl
-
-pub refuted : (q : Question) {c : Constraint} {b places : List Interval} {r : PropResult} {t : Bool} → c ≡ the_constraint q.records → b ≡ box_of q
-    → (r leaving places) ≡ propagate q.settings (to_nnf (Not c)) b → t ≡ sameb the_type r Conflict → t ≡ refutes q.settings (the_constraint q.records) (box_of q)
-unfolding refutes
-refuted q {r = r} is boxes narrowed met = met ∙ is_met r ∙ ap is_conflict (same_answer narrowed) ∙ rw (boxes, is) refl
 
 -- ---- the calls
 module _ (nodes b : List ℕ) (lo hi : Float) (n room : ℕ) (decide : Constraint → QuantResult) where

@@ -71,6 +71,7 @@ impl<'a> Question<'a> {
     }
 
     // Whether propagating the negation of the constraint meets a conflict.
+    #[tactic(auto, using(crate::proofs::Ways::is_met), unfolding(crate::specs::Deciding::refutes))]
     fn is_refuted(&self) -> bool
         ensures { result ≡ refutes self.now.settings (the_constraint self.now.records) (box_of self.now) }
     {

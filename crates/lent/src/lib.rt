@@ -1,5 +1,5 @@
 // `propagate` on the caller's own list of intervals (document 01, "Forms of the Rust to recast"): the tests, and then the narrowing, in place.
-#![tactic(auto)]
+#![tactic(auto, using(narrow::specs::GivenLaws::refusals), unfolding(crate::specs::Lent::propagate_lent))]
 
 ghost use Rattle.std.specs.Prelude.{◌≡◌};
 ghost use Rattle.settings.specs.Settings.{usual};

@@ -5,9 +5,9 @@ use mathlib.Core.List.{List, [], ◌∷◌, ◌++◌}
 use Rattle.std.proofs.Common.{◌⊎◌, inl, inr}
 use native.Mathlib.Omega.{arith}
 use lib.ListN.{length, get_or, set, take, drop}
-use Rattle.std.proofs.Common.{append_assoc, add-one, drop-cons, length-set}
-use Rattle.std.proofs.Math.Seq.{take-suc-set, drop-set-lt}
-use Rattle.std.proofs.lemmas.List.{take-append-drop, drop_all, take_more_same, take-set, get_or-set_same}
+use Rattle.std.proofs.Common.{append_assoc, length-set}
+use Rattle.std.proofs.Math.Seq.{drop-set-lt}
+use Rattle.std.proofs.lemmas.List.{take-append-drop, drop_all, take_more_same, take_more_set, drop_more, take-set, get_or-set_same}
 use Rattle.std.proofs.lemmas.Simd.{get_or-zip2}
 use Rattle.settings.specs.declared.Settings.{Settings}
 use Rattle.interval.specs.declared.Interval.{Interval}
@@ -72,12 +72,9 @@ module _ (σ : Settings) where
     unfolding adopt
     adopt_next d g h {w} {u} {v} e j =
         let rest = left H B (i + 1) in
-        let a : drop i H ≡ get_or H i d ∷ drop (i + 1) H = rw add-one (drop-cons H i d g) in
-        let b : drop i B ≡ get_or B i d ∷ drop (i + 1) B = rw add-one (drop-cons B i d h) in
-        let all : left H B i ≡ (worse_of w rest.answer leaving (v ∷ rest.places)) = rw (a, b, ← e) refl in
+        let all : left H B i ≡ (worse_of w rest.answer leaving (v ∷ rest.places)) = rw (drop_more H i d g, drop_more B i d h, ← e) refl in
         let past : drop (i + 1) (set B i v) ≡ drop (i + 1) B = drop-set-lt (i + 1) B i v (omega arith) in
-        let done : take (i + 1) (set B i v) ≡ take i B ++ v ∷ [] = rw add-one (take-suc-set B i v h) in
-        record { whole = rw (j, past, done, worse_assoc, append_assoc) (rw all at p.whole) }
+        record { whole = rw (j, past, take_more_set B i v h, worse_assoc, append_assoc) (rw all at p.whole) }
 
     all_done : (length H ≤ i) ⊎ (length B ≤ i) → left H B i ≡ (Stable leaving drop i B)
     unfolding adopt
@@ -86,3 +83,5 @@ module _ (σ : Settings) where
 
     pub adopt_ends : (length H ≤ i) ⊎ (length B ≤ i) → (r leaving B) ≡ adopt σ H B₀
     adopt_ends h = rw (all_done h, worse_stable, take-append-drop) at p.whole
+
+pub ruleset adopting = (adopt_begins, adopt_ends)

@@ -2,7 +2,7 @@
 use mathlib.Core.Path.{◌≡◌, refl}
 use mathlib.Core.Bool.{Bool, true, false}
 use Rattle.number.specs.Notation.{when◌then◌else◌}
-use Rattle.number.specs.Literals.{zero_is, one_is, infinite, minus_infinite}
+use Rattle.number.specs.Literals.{zero_is, one_is, infinity_is, minus_infinity_is}
 use Rattle.std.specs.Float.Ieee.{round, of_bits}
 use Rattle.std.proofs.Math.Seq.{set_out}
 use Rattle.settings.specs.declared.Settings.{Settings}
@@ -36,7 +36,7 @@ eps_is = refl
 pub box_is : (b : List Interval) (i : ℕ) (d : Interval) → i < length b → get_or b i d ≡ get_or b i missing
 box_is b i d h = get_or_default b i d missing h
 
-pub ruleset choices = (taken, passed, zero_is, one_is, infinite, minus_infinite, eps_is, set_out, box_is)
+pub ruleset choices = (taken, passed, zero_is, one_is, infinity_is, minus_infinity_is, eps_is, set_out, box_is)
 
 -- nothing lies in an empty interval
 pub back_empty : (σ : Settings) (t : Tree) (out : Interval) (b : List Interval) → is_empty out ≡ true → backward σ t out b ≡ (Conflict leaving b)

@@ -91,6 +91,7 @@ fn aim(settings: Settings, relation: Relation, c: Children) -> Result<Pair, Prop
     ask(out, c)
 }
 
+// From the children. A function of its own, since the law that an Eml may be aimed at is said of what this gives.
 fn aim_at(
     left: EmlTree,
     right: EmlTree,

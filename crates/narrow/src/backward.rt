@@ -1,11 +1,11 @@
 // Backward: what a node's value is to lie in is passed on to its children, down to the variables.
-#![tactic(auto, using(crate::proofs::Choices::choices, crate::proofs::Choices::back_empty), unfolding(crate::specs::Narrowing::left_of, crate::specs::Narrowing::ask, crate::specs::Narrowing::fixed_at, crate::specs::Narrowing::narrow_var, crate::specs::Narrowing::demand, crate::specs::Narrowing::backward, crate::specs::Narrowing::ask_both, crate::specs::Aiming::common_of))]
+#![tactic(auto, using(crate::proofs::Choices::choices, crate::proofs::Choices::back_empty), unfolding(crate::specs::Narrowing::left_of, crate::specs::Narrowing::fixed_at, crate::specs::Narrowing::narrow_var, crate::specs::Narrowing::demand, crate::specs::Narrowing::backward, crate::specs::Narrowing::ask_both, crate::specs::Aiming::common_of))]
 
 ghost use Rattle.std.specs.Prelude.{◌≡◌};
 ghost use Rattle.tree.specs.Views.{the_tree};
 ghost use Rattle.record.specs.Leaving.{◌leaving◌};
 ghost use Rattle.record.specs.Views.{old, final};
-ghost use Rattle.narrow.specs.Narrowing.{eval_interval, left_of, ask as ask_of, demand as demand_of, ask_both, fixed_at, narrow_var, backward};
+ghost use Rattle.narrow.specs.Narrowing.{left_of, ask as ask_of, ask_both, fixed_at, narrow_var, backward};
 ghost use Rattle.narrow.specs.Aiming.{common_of};
 
 use crate::PropResult;
@@ -36,6 +36,7 @@ fn left_of(l: Interval, range: Interval) -> Interval
 }
 
 // What an Eml that is to lie in out asks of its children, or answers at once: out = exp(left) - ln(right).
+#[tactic(auto, using(crate::proofs::Choices::choices), unfolding(crate::specs::Narrowing::ask, crate::specs::Aiming::common_of))]
 pub fn ask(out: Interval, c: Children) -> Result<Pair, PropResult>
     ensures { result ≡ ask_of out c }
 {
@@ -77,18 +78,6 @@ fn narrow_var(i: usize, settings: Settings, out: Interval, boxes: &mut [Interval
     PropResult::Changed
 }
 
-// What an Eml of two trees, which is to lie in out, asks of them.
-fn demand_of(
-    left: EmlTree,
-    right: EmlTree,
-    out: Interval,
-    boxes: &[Interval],
-) -> Result<Pair, PropResult>
-    ensures { result ≡ demand_of (eval_interval boxes.now (the_tree left.entry)) (eval_interval boxes.now (the_tree right.entry)) out }
-{
-    ask(out, eml_children(left, right, boxes)?)
-}
-
 // The tree is to lie in out.
 #[cycle(backward)]
 pub fn backward_propagate(
@@ -107,7 +96,7 @@ pub fn backward_propagate(
         Node::Const(v) => fixed_at(v, out),
         Node::Var(i) => narrow_var(i, settings, out, boxes),
         Node::Eml(left, right) => {
-            let demand = demand_of(left, right, out, boxes);
+            let demand = eml_children(left, right, boxes).and_then(|c| ask(out, c));
             backward_both(left, right, settings, demand, boxes)
         }
     }

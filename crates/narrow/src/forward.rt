@@ -22,7 +22,7 @@ fn eml_interval(l: Interval, r: Interval) -> Option<Interval>
     ensures { result ≡ eml_interval l r }
 {
     if l.is_empty() | r.is_empty() {
-        return Some(Interval::new(1.0 / 0.0, -1.0 / 0.0));
+        return Some(Interval::new(f64::INFINITY, f64::NEG_INFINITY));
     }
     if r.has_ln() {
         return Some(l.exp().minus(r.ln()));

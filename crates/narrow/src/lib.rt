@@ -51,6 +51,7 @@ impl From<PropResult> for u8 {
 
 impl Propagator {
     // In rounds until nothing changes or a Conflict, at most as many as the settings say.
+    #[tactic(auto, using(crate::proofs::Rounds::ends))]
     pub fn propagate(self, c: EmlConstraint, domain: &mut Domain) -> PropResult
         ensures count { domain.new.count.n ≡ domain.old.count.n }
         ensures boxes { (result leaving intervals_of (final domain)) ≡ propagate_of self.settings (in_mode self.mode (meaning c.entry)) (intervals_of (old domain)) }
@@ -77,6 +78,7 @@ impl Propagator {
 }
 
 // The tests in document 01's order, then `propagate` by the one constraint that the records leave. A refusal alters nothing.
+#[tactic(auto, using(crate::proofs::Given::given), unfolding(crate::specs::Given::propagate_given))]
 pub fn propagate_given(
     nodes: &[u8],
     constraints: &[u8],

@@ -21,6 +21,7 @@ use tree::EmlTree;
 // ---- the branches of an Or
 
 // The hull of each pair of boxes. By number, as in `adopt`: of what is written through an adapter of `iter_mut` the checker knows nothing.
+#[tactic(auto, using(std::proofs::lemmas::Grind::common_steps, crate::proofs::Branches::hulls_length))]
 fn hull_boxes(a: Domain, b: Domain) -> Domain
     ensures { intervals_of result ≡ hulls (intervals_of a) (intervals_of b) }
 {
@@ -61,6 +62,7 @@ fn tighten(settings: Settings, hull: Interval, b: &mut Interval) -> PropResult
     PropResult::Stable
 }
 
+#[tactic(auto, using(crate::proofs::Branches::adopting))]
 fn adopt(settings: Settings, hull: &[Interval], boxes: &mut [Interval]) -> PropResult
     ensures { (result leaving final boxes) ≡ adopt_of settings hull.now (old boxes) }
 {
@@ -87,7 +89,7 @@ fn adopt_survivors(settings: Settings, survivors: Option<Domain>, domain: &mut D
 // ---- constraints
 
 // How a constraint is taken: as it is written, its normal form, its negation.
-#[derive(Clone, Copy, PartialEq, Eq)]
+#[derive(Clone, Copy)]
 pub enum Mode {
     Written,
     Normal,
@@ -108,10 +110,10 @@ impl Mode {
     fn relation(self, relation: Relation) -> Relation
         ensures { result ≡ relation_in self relation }
     {
-        if self == Mode::Negated {
-            return normal::opposite(relation);
+        match self {
+            Mode::Written | Mode::Normal => relation,
+            Mode::Negated => normal::opposite(relation),
         }
-        relation
     }
 }
 
@@ -132,7 +134,7 @@ impl Propagator {
         narrow_atom(tree, self.settings, relation, &mut domain.boxes[..n])
     }
 
-    // Under a Not the Rust narrows by the normal form of what is inside: the mode says so, and nothing is built.
+    // A round. Under a Not the Rust narrows by the normal form of what is inside: the mode says so, and nothing is built.
     #[tactic(auto, unfolding(crate::specs::Modes::pass))]
     #[cycle(round)]
     pub fn propagate_once(self, c: EmlConstraint, domain: &mut Domain) -> PropResult
@@ -148,18 +150,14 @@ impl Propagator {
                 };
                 under.propagate_once(inside, domain)
             }
-            Shape::And(cs) => {
-                if self.mode == Mode::Negated {
-                    return self.narrow_any(cs, domain);
-                }
-                self.narrow_all(cs, domain)
-            }
-            Shape::Or(cs) => {
-                if self.mode == Mode::Negated {
-                    return self.narrow_all(cs, domain);
-                }
-                self.narrow_any(cs, domain)
-            }
+            Shape::And(cs) => match self.mode {
+                Mode::Written | Mode::Normal => self.narrow_all(cs, domain),
+                Mode::Negated => self.narrow_any(cs, domain),
+            },
+            Shape::Or(cs) => match self.mode {
+                Mode::Written | Mode::Normal => self.narrow_any(cs, domain),
+                Mode::Negated => self.narrow_all(cs, domain),
+            },
             Shape::ForAll(_, _, _, _) | Shape::Exists(_, _, _, _) => PropResult::Stable,
         }
     }

@@ -1,10 +1,7 @@
 -- `narrow::round::Propagator::propagate` meets its contract. Assumes nothing.
 use Rattle.std.proofs.Common.{rules}
-use Rattle.narrow.proofs.Rounds.{begins, no_more, stays, changes}
+use Rattle.narrow.proofs.Rounds.{stays, changes}
 use Rattle.narrow.proofs.round.Propagator.propagate.Goals as goal
-
-pub loop-init : goal.loop-init
-loop-init c = record { count = search rules; going = begins _ _ _ _ }
 
 pub loop-preserved : goal.loop-preserved
 loop-preserved c = record {
@@ -15,6 +12,3 @@ loop-preserved c = record {
 pub returns-then-ne-clause-boxes : goal.returns-then-ne-clause-boxes
 returns-then-ne-clause-boxes c =
     stays _ _ _ _ _ _ _ c.loop.invariant.going c.loop-test.true c.propagate_once-result.ensures.boxes (search rules) (search rules)
-
-pub returns-clause-boxes : goal.returns-clause-boxes
-returns-clause-boxes c = no_more _ _ _ _ _ _ _ c.loop.invariant.going c.loop-test.false
