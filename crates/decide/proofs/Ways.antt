@@ -23,18 +23,12 @@ use Rattle.record.specs.RefusalLaws.{none_both, never_none}
 use Rattle.record.specs.declared.refusal.Refusal.{Refusal}
 use Rattle.file.specs.File.{Accepted, given_refusal, read_given}
 use Rattle.file.specs.FileLaws.{given_refused, given_is}
-use Rattle.record.specs.Leaving.{◌leaving◌, same_answer}
-use Rattle.interval.specs.declared.Interval.{Interval}
-use Rattle.constraint.specs.Constraint.{Constraint, Not}
-use Rattle.constraint.specs.Views.{the_constraint}
-use Rattle.normal.specs.NormalForm.{to_nnf}
+use Rattle.constraint.specs.Constraint.{Constraint}
 use Rattle.narrow.specs.contracts.PropResult.{the_type}
 use Rattle.narrow.specs.declared.PropResult.{PropResult}
 use Rattle.narrow.specs.declared.PropResult.TheVariants.{Stable, Changed, Conflict}
-use Rattle.narrow.specs.Narrowing.{is_conflict, propagate}
-use Rattle.decide.specs.declared.question.Question.{Question}
-use Rattle.decide.specs.Deciding.{QuantResult, refutes, later_refusal, decided_by}
-use Rattle.decide.specs.Views.{box_of}
+use Rattle.narrow.specs.Narrowing.{is_conflict}
+use Rattle.decide.specs.Deciding.{QuantResult, later_refusal, decided_by}
 
 -- ---- the first sample that passes the test
 pub first : {F : Type 0} {g : Mut F (Bor Float × Unit {0}) Bool} (test : Float → Bool) {s : IntoIter Float 5} (u : IntoIter Float 5) {f : F} {r : Option Float} {xs : List Float}
