@@ -1,14 +1,17 @@
 -- The bodies as the code cuts them, and each way out of the tests. Assumes nothing.
-use Prim.Native.Nat.{ℕ, zero, suc, ◌+◌, ◌*◌, ◌-◌, ◌/◌}
-use mathlib.Core.Path.{◌≡◌, refl, sym, ap, ap₂, ◌∙◌}
-use mathlib.Core.Bool.{true, false}
+use lib.Ieee.{binary64}
+use Rattle.number.specs.Sound.{sound}
+use Rattle.file.specs.File.{bound_at}
+use Prim.Native.Nat.{ℕ, zero, suc, ◌<◌, ◌≤◌, ◌/◌}
+use mathlib.Core.Path.{◌≡◌, refl, sym, ap, ◌∙◌}
+use mathlib.Core.Bool.{Bool, true, false}
 use mathlib.Core.List.{List, []}
 use native.Mathlib.Omega.{arith}
 use Rattle.std.specs.Prelude.{Result, Ok, Err, IfOk}
-use lib.ListN.{length, take, drop, length-drop}
-use lib.Seq.{take_all}
+use lib.ListN.{length}
+use lib.Seq.{take_all, take-suc-set}
 use Rattle.record.specs.Refusal.{◌or_else◌, first}
-use Rattle.record.specs.Refused.{refusal_of}
+use Rattle.record.specs.Refused.{refusal_of, number_of}
 use Rattle.record.specs.declared.refusal.Refusal.{Refusal}
 use Rattle.tree.specs.Nodes.{nodes_refusal}
 use Rattle.tree.specs.Code.{largest}
@@ -19,89 +22,73 @@ use Rattle.constraint.specs.Records.{records_refusal}
 use Rattle.constraint.specs.Starts.{NoLarger}
 use Rattle.constraint.specs.Views.{the_constraint}
 use Rattle.constraint.specs.declared.records.Records.{Records}
-use Rattle.file.specs.File.{node_count, constraint_count, bound_count, constraints_from, bounds_from, nodes_of, constraints_of, bounds_of, is_headed, is_laid_out, bounds, bound_refusal, refusal, Accepted, read_file, given_refusal, read_given, is_counted}
+use Rattle.file.specs.File.{node_count, constraint_count, bound_count, nodes_of, constraints_of, bounds_of, is_headed, is_laid_out, bounds, bound_refusal, refusal, Accepted, read_file, given_refusal, read_given}
 use Rattle.file.specs.Code.{Laid, Holds}
-use Rattle.file.specs.FileLaws.{length_nodes, length_constraints, length_bounds, read_is, given_is}
-
-module _ (file : List ℕ) (n c : ℕ) (en : n ≡ node_count file) (ec : c ≡ constraint_count file) where
-  pub nodes_part : take (32 + 16 * n - 32) (drop 32 file) ≡ nodes_of file
-  unfolding nodes_of
-  nodes_part = let e : 32 + 16 * n - 32 ≡ 16 * node_count file = omega arith in ap (λ (i : ℕ). take i (drop 32 file)) e
-
-  pub constraints_part : take (32 + 16 * n + 24 * c - (32 + 16 * n)) (drop (32 + 16 * n) file) ≡ constraints_of file
-  unfolding constraints_of
-  constraints_part =
-      let e : 32 + 16 * n + 24 * c - (32 + 16 * n) ≡ 24 * constraint_count file = omega arith in
-      let f : 32 + 16 * n ≡ constraints_from file = omega arith in
-      ap₂ (λ (i j : ℕ). take i (drop j file)) e f
-
-  pub bounds_part : take (length file - (32 + 16 * n + 24 * c)) (drop (32 + 16 * n + 24 * c) file) ≡ bounds_of file
-  unfolding bounds_of
-  bounds_part =
-      let f : 32 + 16 * n + 24 * c ≡ bounds_from file = omega arith in
-      take_all (length file - (32 + 16 * n + 24 * c)) (drop (32 + 16 * n + 24 * c) file) (omega (arith, length-drop (32 + 16 * n + 24 * c) file))
-      ∙ ap (λ (i : ℕ). drop i file) f
+use Rattle.record.specs.RefusalLaws.{refuses_first, or_else_none, none_more, first_here}
+use native.Mathlib.Numerals.{add-one}
+use Rattle.tree.specs.NodeLaws.{list_valid}
+use Rattle.file.specs.FileLaws.{headed_long, laid, list_is, given_fit, length_nodes, length_constraints, length_bounds, read_is, given_is}
 
 -- ---- the largest of nodes that passed
 pub no_larger : (nodes : List ℕ) {m : ℕ} → m ≡ largest nodes (length nodes / 16) → NoLarger nodes m
 no_larger nodes e i v = list_within nodes (length nodes / 16) e i (omega (arith, v.there))
 
--- ---- a file, by its tests
+-- ---- the tests of the bounds
+pub unsound : (b : List ℕ) (k n : ℕ) → first (bound_refusal b) k ≡ 0 → k < n → sound binary64 (bound_at b k).lo (bound_at b k).hi ≡ false → 6 ≡ first (bound_refusal b) n
+unfolding bound_refusal
+unsound b k n e l s = sym (first_here (bound_refusal b) 5 k e (simp s) n l)
+
 or_else_assoc : (a b c : ℕ) → ((a or_else b) or_else c) ≡ (a or_else (b or_else c))
 or_else_assoc zero b c = refl
 or_else_assoc (suc a) b c = refl
 
-pub not_headed : (file : List ℕ) → is_headed file ≡ false → 1 ≡ refusal file
-unfolding refusal
-not_headed file e = simp e
+-- ---- a file, by its tests
+module _ (file : List ℕ) {t : Bool} (laid_out : t ≡ is_laid_out file) where
+  pub is_laid : t ≡ true → Laid file
+  is_laid o = laid file (sym laid_out ∙ o)
 
-pub not_laid_out : (file : List ℕ) → is_headed file ≡ true → is_laid_out file ≡ false → 2 ≡ refusal file
-unfolding refusal
-not_laid_out file h e = simp (h, e)
+  -- of its bodies, as they are read
+  nodes_counted : t ≡ true → {nodes : List ℕ} → nodes ≡ nodes_of file → length nodes / 16 ≡ node_count file
+  nodes_counted o e = omega (arith, ap length e, length_nodes file (is_laid o))
 
--- of its bodies, as they are read
-module _ (file : List ℕ) (l : Laid file) {nodes b c : List ℕ} (en : nodes ≡ nodes_of file) (eb : b ≡ constraints_of file) (ec : c ≡ bounds_of file) where
-  abbrev records_part : ℕ
-  records_part = nodes_refusal nodes (length nodes / 16) or_else records_refusal (length nodes / 16) b (length b / 24)
+  constraints_counted : t ≡ true → {b : List ℕ} → b ≡ constraints_of file → length b / 24 ≡ constraint_count file
+  constraints_counted o e = omega (arith, ap length e, length_constraints file (is_laid o))
 
-  pub nodes_counted : length nodes / 16 ≡ node_count file
-  nodes_counted = omega (arith, ap length en, length_nodes file l)
+  bounds_counted : t ≡ true → {c : List ℕ} → c ≡ bounds_of file → length c / 16 ≡ bound_count file
+  bounds_counted o e = omega (arith, ap length e, length_bounds file (is_laid o))
 
-  pub constraints_counted : length b / 24 ≡ constraint_count file
-  constraints_counted = omega (arith, ap length eb, length_constraints file l)
+  pub few_nodes : t ≡ true → {nodes : List ℕ} → nodes ≡ nodes_of file → length nodes / 16 ≤ 1024
+  few_nodes o e = let l = is_laid o in omega (arith, l.few_nodes, nodes_counted o e)
 
-  pub bounds_counted : length c / 16 ≡ bound_count file
-  bounds_counted = omega (arith, ap length ec, length_bounds file l)
+  pub few_constraints : t ≡ true → {b : List ℕ} → b ≡ constraints_of file → length b / 24 ≤ 256
+  few_constraints o e = let l = is_laid o in omega (arith, l.few_constraints, constraints_counted o e)
 
-  module _ (h : is_headed file ≡ true) (o : is_laid_out file ≡ true) where
-    abbrev A : ℕ
-    A = nodes_refusal (nodes_of file) (node_count file)
+  pub few_bounds : t ≡ true → {c : List ℕ} → c ≡ bounds_of file → length c / 16 ≤ 16
+  few_bounds o e = let l = is_laid o in omega (arith, l.few_bounds, bounds_counted o e)
 
-    abbrev B : ℕ
-    B = records_refusal (node_count file) (constraints_of file) (constraint_count file)
-
-    abbrev C : ℕ
-    C = first (bound_refusal (bounds_of file)) (bound_count file)
-
-    by_tests : refusal file ≡ (A or_else B or_else C)
+  module _ {s : Bool} (headed : s ≡ is_headed file) (h : s ≡ true) (o : t ≡ true) {nodes b : List ℕ} (en : nodes ≡ nodes_of file) (eb : b ≡ constraints_of file) where
+    by_tests : refusal file ≡ (nodes_refusal nodes (length nodes / 16) or_else records_refusal (length nodes / 16) b (length b / 24) or_else first (bound_refusal (bounds_of file)) (bound_count file))
     unfolding refusal
-    by_tests = simp (h, o)
+    by_tests = rw (← headed, ← laid_out, h, o, nodes_counted o en, constraints_counted o eb, en, eb) refl
 
-    pub by_parts : (records_part or_else first (bound_refusal c) (length c / 16)) ≡ refusal file
-    by_parts = rw (nodes_counted, constraints_counted, bounds_counted, en, eb, ec) (or_else_assoc A B C ∙ sym by_tests)
+    pub records_refused : (r : Refusal) → number_of r ≡ (nodes_refusal nodes (length nodes / 16) or_else records_refusal (length nodes / 16) b (length b / 24)) → number_of r ≡ refusal file
+    records_refused r e = refuses_first r e _ ∙ or_else_assoc (nodes_refusal nodes (length nodes / 16)) _ _ ∙ sym by_tests
 
-  pub file_is : refusal file ≡ 0 → (r : Records) (d : Domain) → Holds nodes b r → intervals_of d ≡ bounds c (length c / 16) → read_file file ≡ Accepted (the_constraint r) (intervals_of d)
-  file_is z r d k e = rw (k.nodes_are, k.constraints_are, k.counted, constraints_counted, e, bounds_counted, en, eb, ec) (read_is file z)
+    module _ (read : 0 ≡ (nodes_refusal nodes (length nodes / 16) or_else records_refusal (length nodes / 16) b (length b / 24))) {c : List ℕ} (ec : c ≡ bounds_of file) where
+      pub by_bounds : {m : ℕ} → m ≡ first (bound_refusal c) (length c / 16) → m ≡ refusal file
+      by_bounds e =
+          e ∙ rw (bounds_counted o ec, ec) (or_else_none _ _ (sym read) ∙ or_else_assoc (nodes_refusal nodes (length nodes / 16)) _ _ ∙ sym by_tests)
+
+      pub file_is : 0 ≡ first (bound_refusal c) (length c / 16) → (r : Records) (d : Domain) → Holds nodes b r → intervals_of d ≡ bounds c (length c / 16) → read_file file ≡ Accepted (the_constraint r) (intervals_of d)
+      file_is z r d k e = rw (k.nodes_are, k.constraints_are, k.counted, constraints_counted o eb, e, bounds_counted o ec, en, eb, ec) (read_is file (sym (by_bounds z)))
 
 -- ---- records that are given
-pub not_counted : (nodes b : List ℕ) → is_counted nodes b ≡ false → 2 ≡ given_refusal nodes b
-unfolding given_refusal
-not_counted nodes b e = simp e
-
-pub by_counts : (nodes b : List ℕ) → is_counted nodes b ≡ true → (nodes_refusal nodes (length nodes / 16) or_else records_refusal (length nodes / 16) b (length b / 24)) ≡ given_refusal nodes b
-unfolding given_refusal
-by_counts nodes b e = simp e
-
 pub given_read : (nodes b : List ℕ) (x : Result Records Refusal) → refusal_of x ≡ given_refusal nodes b → IfOk x (Holds nodes b) → IfOk x (λ r. read_given nodes b ≡ Accepted (the_constraint r) [])
 given_read nodes b (Ok r) e h = rw (h.nodes_are, h.constraints_are, h.counted) (given_is nodes b (sym e))
 given_read nodes b (Err r) e h = tt
+
+pub ruleset file_tests = (headed_long, few_nodes, few_constraints, few_bounds, records_refused, by_bounds, file_is)
+
+pub ruleset bound_tests = (none_more, unsound, take-suc-set, add-one)
+
+pub ruleset record_tests = (refuses_first, or_else_none, list_valid, no_larger, list_is, given_fit)
