@@ -1,8 +1,7 @@
 -- The records of the normal form and of the negation of what record k finishes, and of the last m that are finished before record n. Assumes nothing.
-use Prim.Native.Nat.{ℕ, ◌+◌, ◌*◌, ◌-◌, ◌≤◌, ◌<◌}
+use Prim.Native.Nat.{ℕ, ◌+◌, ◌-◌, ◌<◌}
 use mathlib.Core.Path.{◌≡◌, refl, sym, ap, ◌∙◌, subst}
 use mathlib.Core.List.{List, [], ◌∷◌, ◌++◌}
-use native.Mathlib.Omega.{arith}
 use lib.ListN.{length, length-append}
 use Rattle.constraint.specs.declared.Record.{Record}
 use Rattle.constraint.specs.declared.records.Records.{Records}
@@ -25,17 +24,6 @@ pub record Ends (whole part rest : List Record) : Type 0 where
 module _ {whole part rest : List Record} (e : Ends whole part rest) where
   pub ends_put : (b : List ℕ) {b₁ b₂ : List ℕ} (at : ℕ) {n m : ℕ} → Puts b b₁ at n part → Puts b₁ b₂ n m rest → Puts b b₂ at m whole
   ends_put b at p q = puts_is e.with (puts_then b at part rest p q)
-
-  -- room for the whole is room for each
-  module _ (at L : ℕ) (h : 24 * (at + length whole) ≤ L) where
-    both : length whole ≡ length part + length rest
-    both = ap length e.with ∙ length-append part rest
-
-    pub part_room : 24 * (at + length part) ≤ L
-    part_room = omega (arith, both)
-
-    pub rest_room : (next M : ℕ) → next ≡ at + length part → M ≡ L → 24 * (next + length rest) ≤ M
-    rest_room next M p q = omega (arith, both)
 
 -- ---- record k, as it was read
 small_dual : (x : Record) → Writable 1024 x → Writable 1024 (dual_of x)
@@ -133,4 +121,8 @@ module _ (r : Records) (m n : ℕ) (q : Taken r m n) where
 
 pub ruleset lengths = (nnf_length, negation_length, nnf_all_length, negation_all_length)
 
-pub ruleset forms = (puts_none, puts_is, some, start_falls, before_last, last, ends_put, small, dual_small, taken, under_not, nnf_ends, nnf_not, nnf_none, nnf_more, negation_ends, negation_not, negation_none, negation_more)
+-- what the check tries by itself
+pub ruleset steps = (lengths, under_not, nnf_not, negation_not, nnf_none, negation_none, puts_none)
+
+-- what takes a record, and what leaves one
+pub ruleset forms = (some, start_falls, before_last, last, ends_put, small, dual_small, taken, nnf_ends, nnf_more, negation_ends, negation_more)

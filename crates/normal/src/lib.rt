@@ -1,6 +1,6 @@
 // The normal form of a constraint (document 01, "Narrowing"; constraint.rs): Not is pushed down to the atoms, and records are written in
 // postorder.
-#![tactic(auto, using(crate::proofs::Forms::forms))]
+#![tactic(auto, using(crate::proofs::Forms::steps))]
 
 ghost use Rattle.std.specs.Prelude.{◌≡◌, ◌+◌, ◌*◌, ◌≤◌, ◌<◌, length};
 ghost use Rattle.record.specs.Leaving.{◌leaving◌};

@@ -1,3 +1,4 @@
+-- `normal::negate`, `normal::negate_all`, `normal::to_nnf` and `normal::to_nnf_all` meet their contracts: the record's number falls at each call. Assumes nothing.
 use native.Mathlib.Omega.{arith}
 use borrow.Author.Rules.{rules}
 use Rattle.constraint.specs.RecordLaws.{some, start_falls}
