@@ -21,7 +21,7 @@ module _ (nodes b : List ℕ) (e : 0 ≡ given_refusal nodes b) (r : Records) (p
   unfolding nnf_records nnf_at
   root_is k h = let i : k ≡ length b / 24 - 1 = omega (arith, p.counted) in rw (p.constraints_are, i)
 
-  pub room : {c : ℕ} → c ≡ count_kept r.constraints.now r.count → (k : ℕ) → k + 1 ≡ r.count → (L : ℕ) → 24 * c ≤ L → 24 * (0 + length (nnf_at r k)) ≤ L
-  room f k root L h = omega (arith, counted, ap length (root_is k root))
+  pub room : {c : ℕ} → c ≡ count_kept r.constraints.now r.count → (k : ℕ) → k + 1 ≡ r.count → (out : List ℕ) → 24 * c ≤ length out → 24 * (0 + length (nnf_at r k)) ≤ length out
+  room f k root out h = omega (arith, counted, ap length (root_is k root))
 
 pub ruleset call_tests = (refuses_first, counted, root_is, room)
