@@ -1,5 +1,5 @@
 -- What the functions below the tests compute, in the terms of their arguments.
-use Rattle.std.specs.Prelude.{ℕ, suc, ◌+◌, ◌*◌, ◌<◌, max, ◌≡◌, List, [], ◌∷◌, ◌++◌, T, ltb, Result, Ok, Err, length, map}
+use Rattle.std.specs.Prelude.{ℕ, suc, ◌+◌, ◌*◌, ◌<◌, max, ◌≡◌, List, [], ◌∷◌, ◌++◌, T, ltb, eqb, Result, Ok, Err, length, map}
 use Rattle.std.specs.Float.{binary64}
 use Rattle.std.specs.Float.Ieee.{fits}
 use Rattle.std.proofs.lemmas.List.Edits.{sets}
@@ -9,7 +9,8 @@ use Rattle.record.specs.declared.refusal.Refusal.{Refusal}
 use Rattle.tree.specs.Tree.{tree_vars}
 use Rattle.tree.specs.Nodes.{tree_at, Valid}
 use Rattle.constraint.specs.Records.{relation_of}
-use Rattle.constraint.specs.Encoding.{records_bytes}
+use Rattle.constraint.specs.Encoding.{kind_of, records_bytes}
+use Rattle.constraint.specs.declared.Kind.{Kind}
 use Rattle.constraint.specs.declared.Relation.{Relation}
 use Rattle.constraint.specs.declared.Record.{Record}
 use Rattle.constraint.specs.declared.Words.{Words}
@@ -18,6 +19,25 @@ use Rattle.constraint.specs.declared.stack.Finished.{Finished}
 -- the relation of an atom's kind
 abbrev pub relation_read : ℕ → Result Relation Refusal
 relation_read kind = when ltb kind 6 then Ok (relation_of kind) else Err Refusal.Constraint
+
+-- the kind of a record's number, and the number of a kind
+abbrev pub kind_read : ℕ → Result Kind Refusal
+kind_read number =
+    when ltb number 6 then Ok (Kind.Atom (relation_of number))
+    else when eqb number 6 then Ok Kind.Not
+    else when eqb number 7 then Ok Kind.And
+    else when eqb number 8 then Ok Kind.Or
+    else when eqb number 9 then Ok Kind.ForAll
+    else when eqb number 10 then Ok Kind.Exists
+    else Err Refusal.Constraint
+
+abbrev pub kind_number : Kind → ℕ
+kind_number (Kind.Atom rel) = kind_of rel
+kind_number Kind.Not = 6
+kind_number Kind.And = 7
+kind_number Kind.Or = 8
+kind_number Kind.ForAll = 9
+kind_number Kind.Exists = 10
 
 -- a record's four numbers, in its bytes
 abbrev pub words_bytes : Words → List ℕ

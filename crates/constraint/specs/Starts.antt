@@ -1,6 +1,5 @@
 -- Where each constraint starts, by which a recursion on record numbers finds those that a record takes; and what is known of records that passed.
-use Rattle.std.specs.Prelude.{ℕ, zero, suc, ◌+◌, ◌*◌, ◌-◌, ◌/◌, ◌≤◌, ◌<◌, ◌≡◌, List, [], ◌∷◌, ◌++◌, map, length, get_or, take, drop}
-use Rattle.tree.specs.Tree.{size}
+use Rattle.std.specs.Prelude.{ℕ, zero, suc, ◌*◌, ◌-◌, ◌/◌, ◌≤◌, ◌<◌, ◌≡◌, List, [], ◌∷◌, ◌++◌, map, length, get_or, take, drop}
 use Rattle.tree.specs.Nodes.{tree_at, Valid}
 use Rattle.constraint.specs.Constraint.{Formula, Constraint, map_formula}
 use Rattle.constraint.specs.Records.{record_at, takes, formula_at, records_refusal}
@@ -37,7 +36,3 @@ pub record Ready (nodes b : List ℕ) (n : ℕ) (starts : List ℕ) : Type 0 whe
   pub accepted : records_refusal (length nodes / 16) b n ≡ 0
   pub room : length starts ≡ 256
   pub begins : (k : ℕ) → k < n → get_or starts k 0 ≡ start_at b k
-
--- no tree of accepted nodes has a size above n
-abbrev pub NoLarger : List ℕ → ℕ → Type 0
-NoLarger nodes n = (i : ℕ) → Valid nodes (i + 1) → size (tree_at nodes i) ≤ n

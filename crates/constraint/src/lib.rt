@@ -2,10 +2,13 @@
 #![tactic(auto)]
 
 mod records;
+mod shape;
 mod stack;
 
-ghost use Rattle.std.specs.Prelude.{◌≡◌, ◌+◌, ◌*◌, ◌≤◌, ◌<◌, ◌++◌, [], ◌∷◌, Ok, Err, length};
+ghost use Rattle.std.specs.Prelude.{◌≡◌, ◌+◌, ◌*◌, ◌^◌, ◌≤◌, ◌<◌, ◌++◌, [], ◌∷◌, Ok, Err, length};
 ghost use Rattle.std.proofs.lemmas.List.Edits.{sets};
+ghost use Rattle.std.specs.Float.{binary64};
+ghost use Rattle.std.specs.Float.Ieee.{to_bits};
 ghost use Rattle.record.specs.Bytes.{u32_bytes, u64_bytes};
 ghost use Rattle.record.specs.Leaving.{◌leaving◌};
 ghost use Rattle.record.specs.Refused.{numbered};
@@ -13,10 +16,11 @@ ghost use Rattle.record.specs.Views.{old, final};
 ghost use Rattle.constraint.specs.Records.{record_at, is_record, is_ranged, takes};
 ghost use Rattle.constraint.specs.Encoding.{record_bytes};
 ghost use Rattle.constraint.specs.Comparison.{compared};
-ghost use Rattle.constraint.specs.Code.{binds, own_vars, Named, Writable, Puts, words_bytes};
+ghost use Rattle.constraint.specs.Code.{kind_number, binds, Writable, Puts, words_bytes};
 
 use record::Refusal;
 pub use records::Records;
+pub use shape::{EmlConstraint, Operands, Shape};
 
 // How an atom compares its tree's value with zero, in the order of document 01's kinds, 0 to 5.
 #[derive(Clone, Copy)]
@@ -59,6 +63,53 @@ impl From<Relation> for u32 {
     }
 }
 
+// What a record is: document 01's kinds, an atom's 0 to 5, the others 6 to 10.
+#[derive(Clone, Copy)]
+enum Kind {
+    Atom(Relation),
+    Not,
+    And,
+    Or,
+    ForAll,
+    Exists,
+}
+
+impl TryFrom<u32> for Kind {
+    type Error = Refusal;
+
+    ghost use Rattle.constraint.specs.Code.{kind_read};
+
+    ghost try_from_gives = { λ number r. r ≡ kind_read number };
+
+    fn try_from(number: u32) -> Result<Kind, Refusal> {
+        match number {
+            6 => Ok(Kind::Not),
+            7 => Ok(Kind::And),
+            8 => Ok(Kind::Or),
+            9 => Ok(Kind::ForAll),
+            10 => Ok(Kind::Exists),
+            _ => Ok(Kind::Atom(Relation::try_from(number)?)),
+        }
+    }
+}
+
+impl From<Kind> for u32 {
+    ghost use Rattle.constraint.specs.Code.{kind_number};
+
+    ghost from_gives = { λ kind number. number ≡ kind_number kind };
+
+    fn from(kind: Kind) -> u32 {
+        match kind {
+            Kind::Atom(relation) => u32::from(relation),
+            Kind::Not => 6,
+            Kind::And => 7,
+            Kind::Or => 8,
+            Kind::ForAll => 9,
+            Kind::Exists => 10,
+        }
+    }
+}
+
 // What a record says: an atom its node, And and Or how many they take, a quantifier its variable, lo and hi.
 #[derive(Clone, Copy)]
 pub enum Record {
@@ -76,21 +127,19 @@ pub fn record_in(constraints: &[u8], k: usize) -> Record
     ensures { result ≡ record_at constraints.now k }
 {
     let at = 24 * k;
-    let kind = record::read_u32(constraints, at);
+    let kind = Kind::try_from(record::read_u32(constraints, at));
     let arg = record::read_u32(constraints, at + 4) as usize;
-    if let Ok(relation) = Relation::try_from(kind) {
-        return Record::Atom(relation, arg);
-    }
-    match kind {
-        6 => Record::Not,
-        7 => Record::And(arg),
-        8 => Record::Or(arg),
-        9 => Record::ForAll(
+    match kind.unwrap_or(Kind::Exists) {
+        Kind::Atom(relation) => Record::Atom(relation, arg),
+        Kind::Not => Record::Not,
+        Kind::And => Record::And(arg),
+        Kind::Or => Record::Or(arg),
+        Kind::ForAll => Record::ForAll(
             arg,
             record::read_f64(constraints, at + 8),
             record::read_f64(constraints, at + 16),
         ),
-        _ => Record::Exists(
+        Kind::Exists => Record::Exists(
             arg,
             record::read_f64(constraints, at + 8),
             record::read_f64(constraints, at + 16),
@@ -104,19 +153,18 @@ pub fn is_record(constraints: &[u8], k: usize, count: usize) -> bool
     ensures { result ≡ is_record count constraints.now k }
 {
     let at = 24 * k;
-    let kind = record::read_u32(constraints, at);
+    let Ok(kind) = Kind::try_from(record::read_u32(constraints, at)) else {
+        return false;
+    };
     let arg = record::read_u32(constraints, at + 4) as usize;
     let lo = record::read_u64(constraints, at + 8);
     let hi = record::read_u64(constraints, at + 16);
     let blank = (lo == 0) & (hi == 0);
     match kind {
-        0..=5 => (arg < count) & blank,
-        6 => (arg == 0) & blank,
-        7 => blank,
-        8 => blank,
-        9 => arg < 16,
-        10 => arg < 16,
-        _ => false,
+        Kind::Atom(_) => (arg < count) & blank,
+        Kind::Not => (arg == 0) & blank,
+        Kind::And | Kind::Or => blank,
+        Kind::ForAll | Kind::Exists => arg < 16,
     }
 }
 
@@ -149,18 +197,6 @@ fn quantifier_of(r: Record) -> usize
     }
 }
 
-// What a record names itself: an atom's variables, or the quantified one.
-fn own_vars(nodes: &[u8], r: Record) -> usize
-    requires { Named nodes.now r }
-    ensures { result ≡ own_vars nodes.now r }
-{
-    match r {
-        Record::Atom(_, i) => tree::num_vars(nodes, i),
-        Record::ForAll(v, _, _) | Record::Exists(v, _, _) => v + 1,
-        Record::Not | Record::And(_) | Record::Or(_) => 0,
-    }
-}
-
 // ---- a record is written
 
 // A record's four numbers.
@@ -173,38 +209,43 @@ struct Words {
 }
 
 // Of all but the quantifiers.
-fn unranged(kind: u32, arg: u32) -> Words
-    ensures { result ≡ record { kind = kind; arg = arg; lo = 0; hi = 0 } }
+fn unranged(kind: Kind, arg: usize) -> Words
+    requires { arg < 2 ^ 32 }
+    ensures { result ≡ record { kind = kind_number kind; arg = arg; lo = 0; hi = 0 } }
 {
     Words {
-        kind,
-        arg,
+        kind: u32::from(kind),
+        arg: arg as u32,
         lo: 0,
         hi: 0,
     }
 }
 
+// Of a quantifier.
+fn ranged(kind: Kind, v: usize, lo: f64, hi: f64) -> Words
+    requires { v < 2 ^ 32 }
+    ensures { result ≡ record { kind = kind_number kind; arg = v; lo = to_bits binary64 lo; hi = to_bits binary64 hi } }
+{
+    Words {
+        kind: u32::from(kind),
+        arg: v as u32,
+        lo: number::bits_of(lo),
+        hi: number::bits_of(hi),
+    }
+}
+
+#[tactic(auto, unfolding(crate::specs::Encoding::record_bytes))]
 fn words_of(r: Record) -> Words
     requires { Writable 1024 r }
     ensures { words_bytes result ≡ record_bytes r }
 {
     match r {
-        Record::Atom(relation, i) => unranged(u32::from(relation), i as u32),
-        Record::Not => unranged(6, 0),
-        Record::And(m) => unranged(7, m as u32),
-        Record::Or(m) => unranged(8, m as u32),
-        Record::ForAll(v, lo, hi) => Words {
-            kind: 9,
-            arg: v as u32,
-            lo: number::bits_of(lo),
-            hi: number::bits_of(hi),
-        },
-        Record::Exists(v, lo, hi) => Words {
-            kind: 10,
-            arg: v as u32,
-            lo: number::bits_of(lo),
-            hi: number::bits_of(hi),
-        },
+        Record::Atom(relation, i) => unranged(Kind::Atom(relation), i),
+        Record::Not => unranged(Kind::Not, 0),
+        Record::And(m) => unranged(Kind::And, m),
+        Record::Or(m) => unranged(Kind::Or, m),
+        Record::ForAll(v, lo, hi) => ranged(Kind::ForAll, v, lo, hi),
+        Record::Exists(v, lo, hi) => ranged(Kind::Exists, v, lo, hi),
     }
 }
 

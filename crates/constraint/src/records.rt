@@ -4,23 +4,22 @@ ghost use Rattle.record.specs.Refusal.{◌unless◌};
 ghost use Rattle.record.specs.Refused.{refusal_of};
 ghost use Rattle.tree.specs.Nodes.{Valid};
 ghost use Rattle.constraint.specs.Records.{records_refusal};
-ghost use Rattle.constraint.specs.Starts.{Ready, NoLarger};
+ghost use Rattle.constraint.specs.Starts.{Ready};
 ghost use Rattle.constraint.specs.Code.{binds, greatest, depths, quantified, starts};
 
 use crate::stack::{Finished, Stack};
-use crate::{Record, is_ranged, is_record, own_vars, quantifier_of, record_in, taken_by};
+use crate::{EmlConstraint, Record, is_ranged, is_record, quantifier_of, record_in, taken_by};
 use record::Refusal;
+use tree::EmlTree;
 
-// They stand over nodes that passed too, of which no tree is larger than `largest`; `starts` has the first record of each constraint.
+// They stand over nodes that passed too; `starts` has the first record of each constraint.
 #[derive(Drop)]
 pub struct Records<'a> {
     pub nodes: &'a [u8],
     pub constraints: &'a [u8],
     pub starts: [u8; 256],
     pub count: usize,
-    pub largest: usize,
     pub ghost ready: { Ready nodes.now constraints.now count starts },
-    pub ghost no_larger: { NoLarger nodes.now largest },
 }
 
 // What record number k finishes, from those that it takes: 7.
@@ -45,17 +44,14 @@ fn finish(k: u8, r: Record, taken: &[Finished]) -> Result<Finished, Refusal>
 }
 
 impl<'a> Records<'a> {
-    ghost use Rattle.constraint.specs.Constraint.{num_vars, num_vars_all};
     ghost use Rattle.constraint.specs.Starts.{start_at};
-    ghost use Rattle.constraint.specs.Views.{constraint_of, constraints_before, Taken};
+    ghost use Rattle.constraint.specs.Views.{the_constraint, meaning};
+    ghost use Rattle.tree.specs.Nodes.{tree_at};
+    ghost use Rattle.tree.specs.Views.{the_tree};
 
     // The tests of each record: 5, 6, then 7; then 7 unless just one constraint is left.
-    pub fn new(
-        nodes: &'a [u8],
-        constraints: &'a [u8],
-        largest: usize,
-    ) -> Result<Records<'a>, Refusal>
-        requires nodes { Valid nodes.now (length nodes.now / 16) × NoLarger nodes.now largest }
+    pub fn new(nodes: &'a [u8], constraints: &'a [u8]) -> Result<Records<'a>, Refusal>
+        requires nodes { Valid nodes.now (length nodes.now / 16) }
         requires few { length constraints.now / 24 ≤ 256 }
         ensures refusal { refusal_of result ≡ records_refusal (length nodes.now / 16) constraints.now (length constraints.now / 24) }
         ensures records { IfOk result (λ r. (r.nodes.now ≡ nodes.now) × (r.constraints.now ≡ constraints.now) × (r.count ≡ length constraints.now / 24)) }
@@ -87,15 +83,17 @@ impl<'a> Records<'a> {
             constraints,
             starts,
             count,
-            largest,
         })
     }
 
-    // The last record: its constraint is the one that is left.
-    pub fn root(&self) -> usize
-        ensures { result + 1 ≡ self.now.count }
+    // The one that is left: the last record finishes it.
+    pub fn constraint(&self) -> EmlConstraint
+        ensures { meaning result ≡ the_constraint self.now }
     {
-        self.count - 1
+        EmlConstraint {
+            records: self,
+            root: self.count - 1,
+        }
     }
 
     // The first record of constraint k.
@@ -106,28 +104,14 @@ impl<'a> Records<'a> {
         usize::from(self.starts[k])
     }
 
-    // The number of variables of constraint k.
-    #[cycle(num_vars_num_vars_all)]
-    pub fn num_vars(&self, k: usize) -> usize
-        requires { k < self.now.count }
-        ensures { result ≡ num_vars (constraint_of self.now k) }
+    // The tree of node i.
+    pub fn tree(&self, i: usize) -> EmlTree<'a>
+        requires { Valid self.now.nodes.now (i + 1) }
+        ensures { the_tree result ≡ tree_at self.now.nodes.now i }
     {
-        let r = record_in(self.constraints, k);
-        let taken = self.num_vars_all(taken_by(r), k);
-        taken.max(own_vars(self.nodes, r))
-    }
-
-    // The most of the last m constraints that are finished before record end.
-    #[cycle(num_vars_num_vars_all)]
-    fn num_vars_all(&self, m: usize, end: usize) -> usize
-        requires { Taken self.now m end }
-        ensures { result ≡ num_vars_all (constraints_before self.now m end) }
-    {
-        if m == 0 {
-            return 0;
+        EmlTree {
+            nodes: self.nodes,
+            root: i,
         }
-        let last = end - 1;
-        let before = self.num_vars_all(m - 1, self.start(last));
-        before.max(self.num_vars(last))
     }
 }

@@ -25,7 +25,7 @@ abbrev contents : ℕ → ℕ → ℕ → List ℕ
 contents n c m =
     u32_bytes 32 ++ u32_bytes n ++ u32_bytes (32 + 16 * n) ++ u32_bytes c ++ u32_bytes (32 + 16 * n + 24 * c) ++ u32_bytes m
 
-abbrev file : List Node → List Record → List Interval → List ℕ
+abbrev file : List (Node ℕ) → List Record → List Interval → List ℕ
 file ns rs is =
     69 ∷ 77 ∷ 76 ∷ 81 ∷ 1 ∷ 0 ∷ 0 ∷ 0 ∷ contents (length ns) (length rs) (length is) ++ nodes_bytes ns ++ records_bytes rs ++ bounds_bytes is
 
@@ -40,7 +40,7 @@ one = 0x3FF0000000000000
 abbrev three : ℕ
 three = 0x4008000000000000
 
-abbrev var : List Node
+abbrev var : List (Node ℕ)
 var = Node.Var 0 ∷ []
 
 abbrev gt : List Record
@@ -94,7 +94,7 @@ unfolding making
 constraint_kind = refl
 
 -- 4: each node has the one before it as both children, so the sizes are 1, 3, 7 .. 8191
-unfoldable doubled : ℕ → List Node
+unfoldable doubled : ℕ → List (Node ℕ)
 doubled zero = Node.One ∷ []
 doubled (suc n) = doubled n ++ Node.Eml n n ∷ []
 

@@ -10,7 +10,7 @@ ghost use Rattle.constraint.specs.Constraint.{num_vars};
 ghost use Rattle.constraint.specs.Records.{records_refusal};
 ghost use Rattle.constraint.specs.Views.{the_constraint};
 ghost use Rattle.file.specs.File.{node_count, constraint_count, bound_count, nodes_of, constraints_of, bounds_of, is_headed, is_laid_out, bound_at, bounds, bound_refusal, refusal, Accepted, read_file, given_refusal, read_given};
-ghost use Rattle.file.specs.Code.{Laid, Holds};
+ghost use Rattle.file.specs.Code.{Laid, Holds, header_refusal};
 ghost use Rattle.file.specs.Answer.{answered};
 
 use constraint::Records;
@@ -62,55 +62,67 @@ fn is_laid_out(file: &[u8]) -> bool
         & (size == end)
 }
 
-// ---- the counts and the bodies of a file that is laid out
+// ---- the bodies of a file
 
-fn node_count(file: &[u8]) -> usize
-    requires { 32 ≤ length file.now }
-    ensures { result ≡ node_count file.now }
-{
-    record::read_u32(file, 12) as usize
+// A file that is laid out as its header says.
+#[derive(Clone, Copy)]
+struct House<'a> {
+    file: &'a [u8],
+    ghost laid: { Laid file.now },
 }
 
-fn constraint_count(file: &[u8]) -> usize
-    requires { 32 ≤ length file.now }
-    ensures { result ≡ constraint_count file.now }
-{
-    record::read_u32(file, 20) as usize
-}
+impl<'a> House<'a> {
+    // 1, 2.
+    #[tactic(auto, using(crate::specs::FileLaws::headed_long), unfolding(crate::specs::Code::header_refusal))]
+    fn new(file: &'a [u8]) -> Result<House<'a>, Refusal>
+        ensures refusal { refusal_of result ≡ header_refusal file.now }
+        ensures house { IfOk result (λ h. h.file.now ≡ file.now) }
+    {
+        if !is_headed(file) {
+            return Err(Refusal::Header);
+        }
+        if !is_laid_out(file) {
+            return Err(Refusal::Counts);
+        }
+        Ok(House { file })
+    }
 
-fn bound_count(file: &[u8]) -> usize
-    requires { 32 ≤ length file.now }
-    ensures { result ≡ bound_count file.now }
-{
-    record::read_u32(file, 28) as usize
-}
+    fn node_count(self) -> usize
+        ensures { result ≡ node_count self.entry.file.now }
+    {
+        record::read_u32(self.file, 12) as usize
+    }
 
-#[tactic(auto, unfolding(crate::specs::File::nodes_of))]
-fn nodes_of(file: &[u8]) -> &[u8]
-    requires { Laid file.now }
-    ensures { result.now ≡ nodes_of file.now }
-{
-    let to = 32 + 16 * node_count(file);
-    &file[32..to]
-}
+    fn constraint_count(self) -> usize
+        ensures { result ≡ constraint_count self.entry.file.now }
+    {
+        record::read_u32(self.file, 20) as usize
+    }
 
-#[tactic(auto, unfolding(crate::specs::File::constraints_of))]
-fn constraints_of(file: &[u8]) -> &[u8]
-    requires { Laid file.now }
-    ensures { result.now ≡ constraints_of file.now }
-{
-    let from = 32 + 16 * node_count(file);
-    let to = from + 24 * constraint_count(file);
-    &file[from..to]
-}
+    #[tactic(auto, unfolding(crate::specs::File::nodes_of))]
+    fn nodes(self) -> &'a [u8]
+        ensures { result.now ≡ nodes_of self.entry.file.now }
+    {
+        let to = 32 + 16 * self.node_count();
+        &self.file[32..to]
+    }
 
-#[tactic(auto, unfolding(crate::specs::File::bounds_of))]
-fn bounds_of(file: &[u8]) -> &[u8]
-    requires { Laid file.now }
-    ensures { result.now ≡ bounds_of file.now }
-{
-    let from = 32 + 16 * node_count(file) + 24 * constraint_count(file);
-    &file[from..]
+    #[tactic(auto, unfolding(crate::specs::File::constraints_of))]
+    fn constraints(self) -> &'a [u8]
+        ensures { result.now ≡ constraints_of self.entry.file.now }
+    {
+        let from = 32 + 16 * self.node_count();
+        let to = from + 24 * self.constraint_count();
+        &self.file[from..to]
+    }
+
+    #[tactic(auto, unfolding(crate::specs::File::bounds_of))]
+    fn bounds(self) -> &'a [u8]
+        ensures { result.now ≡ bounds_of self.entry.file.now }
+    {
+        let from = 32 + 16 * self.node_count() + 24 * self.constraint_count();
+        &self.file[from..]
+    }
 }
 
 // Bound k, read with no test.
@@ -154,25 +166,20 @@ fn read_records<'a>(nodes: &'a [u8], constraints: &'a [u8]) -> Result<Records<'a
     ensures refusal { refusal_of result ≡ (nodes_refusal nodes.now (length nodes.now / 16) or_else records_refusal (length nodes.now / 16) constraints.now (length constraints.now / 24)) }
     ensures records { IfOk result (Holds nodes.now constraints.now) }
 {
-    let largest = tree::test_sizes(nodes, nodes.len() / 16)?;
-    Records::new(nodes, constraints, largest)
+    tree::test_sizes(nodes, nodes.len() / 16)?;
+    Records::new(nodes, constraints)
 }
 
 // ---- what other crates call
 
-#[tactic(auto, using(crate::proofs::Parts::file_tests), unfolding(crate::specs::File::refusal))]
+#[tactic(auto, using(crate::proofs::Parts::file_tests))]
 pub fn read(file: &[u8]) -> Result<Problem<'_>, Refusal>
     ensures refusal { refusal_of result ≡ refusal file.now }
     ensures problem { IfOk result (λ p. read_file file.now ≡ Accepted (the_constraint p.records) (intervals_of p.bounds)) }
 {
-    if !is_headed(file) {
-        return Err(Refusal::Header);
-    }
-    if !is_laid_out(file) {
-        return Err(Refusal::Counts);
-    }
-    let records = read_records(nodes_of(file), constraints_of(file))?;
-    let bounds = read_bounds(bounds_of(file))?;
+    let house = House::new(file)?;
+    let records = read_records(house.nodes(), house.constraints())?;
+    let bounds = read_bounds(house.bounds())?;
     Ok(Problem { records, bounds })
 }
 
@@ -197,7 +204,7 @@ pub fn num_vars(file: &[u8]) -> Result<u64, Refusal>
     ensures { numbered result ≡ answered num_vars (read_file file.now) }
 {
     let problem = read(file)?;
-    Ok(vars_of(&problem.records))
+    Ok(problem.records.constraint().num_vars() as u64)
 }
 
 // The same of records.
@@ -206,11 +213,5 @@ pub fn num_vars_given(nodes: &[u8], constraints: &[u8]) -> Result<u64, Refusal>
     ensures { numbered result ≡ answered num_vars (read_given nodes.now constraints.now) }
 {
     let records = read_given(nodes, constraints)?;
-    Ok(vars_of(&records))
-}
-
-fn vars_of(records: &Records) -> u64
-    ensures { result ≡ num_vars (the_constraint records.now) }
-{
-    records.num_vars(records.root()) as u64
+    Ok(records.constraint().num_vars() as u64)
 }

@@ -25,19 +25,19 @@ back_empty σ (Tree.Var i) out b e = simp e
 back_empty σ (Tree.Eml l r) out b e = simp e
 
 -- a node that is no variable is not moved
-by_node : (ts : List Tree) (b : List Interval) (x : Node) → ((i : ℕ) → x ≡ Node.Var i → ⊥) → Stable leaving b ≡ nudge_tree (tree_of ts x) b
+by_node : (ts : List Tree) (b : List Interval) (x : Node ℕ) → ((i : ℕ) → x ≡ Node.Var i → ⊥) → Stable leaving b ≡ nudge_tree (tree_of ts x) b
 unfolding nudge_tree tree_of
 by_node ts b Node.One h = refl
 by_node ts b (Node.Const v) h = refl
 by_node ts b (Node.Var i) h = absurd (h i refl)
 by_node ts b (Node.Eml l r) h = refl
 
-pub not_nudged : (nodes : List ℕ) (k : ℕ) (b : List Interval) {x : Node} → x ≡ node_at nodes k → ((i : ℕ) → x ≡ Node.Var i → ⊥) → Stable leaving b ≡ nudge_tree (tree_at nodes k) b
+pub not_nudged : (nodes : List ℕ) (k : ℕ) (b : List Interval) {x : Node ℕ} → x ≡ node_at nodes k → ((i : ℕ) → x ≡ Node.Var i → ⊥) → Stable leaving b ≡ nudge_tree (tree_at nodes k) b
 unfolding tree_at
-not_nudged nodes k b {x} e h = subst (λ (y : Node). Stable leaving b ≡ nudge_tree (tree_of (trees nodes k) y) b) e (by_node (trees nodes k) b x h)
+not_nudged nodes k b {x} e h = subst (λ (y : Node ℕ). Stable leaving b ≡ nudge_tree (tree_of (trees nodes k) y) b) e (by_node (trees nodes k) b x h)
 
 -- ---- an Eml: its children come before it, and it is narrowed by what they are asked
-module _ (nodes : List ℕ) (k : ℕ) (v : Valid nodes (k + 1)) {x : Node} (e : x ≡ node_at nodes k) (i j : ℕ) (h : x ≡ Node.Eml i j) where
+module _ (nodes : List ℕ) (k : ℕ) (v : Valid nodes (k + 1)) {x : Node ℕ} (e : x ≡ node_at nodes k) (i j : ℕ) (h : x ≡ Node.Eml i j) where
   pub before : (i < k) × (j < k) × Valid nodes (i + 1) × Valid nodes (j + 1)
   before =
       let l = at_left nodes k v i j (sym e ∙ h) k refl in

@@ -34,7 +34,7 @@ abbrev mutual
 
 -- ---- those that are read from records are
 module _ (nodes : List ℕ) where
-  abbrev NodeHeld : Node → Type 0
+  abbrev NodeHeld : Node ℕ → Type 0
   NodeHeld Node.One = Unit {0}
   NodeHeld (Node.Const v) = Held v
   NodeHeld (Node.Var i) = Unit {0}
@@ -53,7 +53,7 @@ module _ (nodes : List ℕ) where
   one_held (t ∷ ts) zero h = h.0
   one_held (t ∷ ts) (suc i) h = one_held ts i h.1
 
-  of_held : (ts : List Tree) (x : Node) → TreesHeld ts → NodeHeld x → TreeHeld (tree_of ts x)
+  of_held : (ts : List Tree) (x : Node ℕ) → TreesHeld ts → NodeHeld x → TreeHeld (tree_of ts x)
   unfolding tree_of
   of_held ts Node.One h n = tt
   of_held ts (Node.Const v) h n = n

@@ -1,6 +1,6 @@
 -- The call on records that are given: they are counted, and there is room for as many. Assumes nothing.
-use Prim.Native.Nat.{ℕ, ◌+◌, ◌-◌, ◌*◌, ◌/◌, ◌≤◌}
-use mathlib.Core.Path.{◌≡◌, sym, ap}
+use Prim.Native.Nat.{ℕ, ◌<◌, ◌+◌, ◌-◌, ◌*◌, ◌/◌, ◌≤◌}
+use mathlib.Core.Path.{◌≡◌, refl, sym, ap}
 use mathlib.Core.List.{List}
 use native.Mathlib.Omega.{arith}
 use lib.ListN.{length}
@@ -17,11 +17,11 @@ module _ (nodes b : List ℕ) (e : 0 ≡ given_refusal nodes b) (r : Records) (p
   pub counted : length (nnf_records b (length b / 24)) ≡ count_kept r.constraints.now r.count
   counted = rw (p.constraints_are, p.counted) (nnf_count (length nodes / 16) b (length b / 24) (passed_given nodes b (sym e)).2)
 
-  pub root_is : (k : ℕ) → k + 1 ≡ r.count → nnf_at r k ≡ nnf_records b (length b / 24)
+  pub root_is : nnf_at r (r.count - 1) ≡ nnf_records b (length b / 24)
   unfolding nnf_records nnf_at
-  root_is k h = let i : k ≡ length b / 24 - 1 = omega (arith, p.counted) in rw (p.constraints_are, i)
+  root_is = rw (p.constraints_are, p.counted) refl
 
-  pub room : {c : ℕ} → c ≡ count_kept r.constraints.now r.count → (k : ℕ) → k + 1 ≡ r.count → (out : List ℕ) → 24 * c ≤ length out → 24 * (0 + length (nnf_at r k)) ≤ length out
-  room f k root out h = omega (arith, counted, ap length (root_is k root))
+  pub room : {c : ℕ} → c ≡ count_kept r.constraints.now r.count → (out : List ℕ) → 24 * c ≤ length out → 24 * (0 + length (nnf_at r (r.count - 1))) ≤ length out
+  room f out h = omega (arith, counted, ap length root_is)
 
-pub ruleset call_tests = (refuses_first, counted, root_is, room)
+pub ruleset call_tests = (refuses_first, counted, root_is)

@@ -135,5 +135,5 @@ pub fn to_nnf_given(nodes: &[u8], constraints: &[u8], out: &mut [u8]) -> Result<
     if out.len() < 24 * count_kept(&records) {
         return Err(Refusal::Room);
     }
-    Ok(to_nnf(&records, records.root(), out, 0))
+    Ok(to_nnf(&records, records.count - 1, out, 0))
 }

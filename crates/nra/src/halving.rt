@@ -5,6 +5,7 @@ ghost use Rattle.record.specs.Refused.{refusal_of};
 use constraint::Records;
 use interval::{Domain, Point};
 use point::helpers::{check_constraint, evaluate_constraint_residual};
+use point::stack::Stack;
 use record::Refusal;
 use settings::Settings;
 
@@ -20,16 +21,14 @@ pub struct Task<'a> {
 
 impl<'a> Task<'a> {
     ghost use Rattle.interval.specs.Views.{intervals_of, values_of};
-    ghost use Rattle.constraint.specs.Starts.{NoLarger};
     ghost use Rattle.constraint.specs.Views.{the_constraint};
     ghost use Rattle.point.specs.Check.{check};
     ghost use Rattle.nra.specs.Answers.{Asks};
     ghost use Rattle.nra.specs.Calls.{limit_refusal};
     ghost use Rattle.nra.specs.Solver.{distance_at, halved};
-    ghost use Rattle.record.specs.Views.{old};
 
-    // 8 for a limit above 1,000,000 or a NaN tolerance.
     #[tactic(auto, unfolding(crate::specs::Calls::limit_refusal))]
+    // 8 for a limit above 1,000,000 or a NaN tolerance.
     pub fn new(records: Records<'a>, limit: usize, tolerance: f64) -> Result<Task<'a>, Refusal>
         ensures refusal { refusal_of result ≡ limit_refusal limit tolerance }
         ensures task { IfOk result (Asks (the_constraint records.entry) limit tolerance) }
@@ -46,46 +45,42 @@ impl<'a> Task<'a> {
     }
 
     // Whether the point passes the check.
-    pub fn passes(&self, point: &Point, order: &mut [u16]) -> bool
-        requires { NoLarger self.now.records.nodes.now (length order.old) }
+    pub fn passes(&self, point: &Point, stack: &mut Stack) -> bool
         ensures { result ≡ check self.now.settings (values_of point.now) (the_constraint self.now.records) }
     {
         check_constraint(
             &self.records,
             self.records.root(),
             self.settings,
-            point.as_slice(),
-            order,
+            point,
+            stack,
         )
     }
 
     // How far the point is from meeting the constraint: the residual's magnitude.
-    pub fn distance(&self, point: &Point, order: &mut [u16]) -> f64
-        requires { NoLarger self.now.records.nodes.now (length order.old) }
+    pub fn distance(&self, point: &Point, stack: &mut Stack) -> f64
         ensures { result ≡ distance_at self.now.settings (the_constraint self.now.records) (values_of point.now) }
     {
         number::abs(evaluate_constraint_residual(
             &self.records,
             self.records.root(),
             self.settings,
-            point.as_slice(),
-            order,
+            point,
+            stack,
         ))
     }
 
     // The last widest box is halved: its lower half stays only if the residual there is strictly smaller.
-    #[tactic(auto, using(crate::proofs::Steps::one_changed), unfolding(crate::specs::Solver::halved, crate::specs::Solver::distance, number::specs::Computing::computing))]
-    pub fn halved(&self, boxes: Domain, order: &mut [u16]) -> Domain
-        requires some { 0 < boxes.count }
-        requires room { NoLarger self.now.records.nodes.now (length order.old) }
+    pub fn halved(&self, boxes: Domain, stack: &mut Stack) -> Domain
+        requires { 0 < boxes.count }
         ensures { (result.count ≡ boxes.count) × (intervals_of result ≡ halved self.now.settings (the_constraint self.now.records) (intervals_of boxes)) }
     {
         let w = boxes.widest();
         let halves = interval::box_at(boxes.as_slice(), w).split();
         let point = boxes.midpoints().with(w, halves.lower.midpoint());
-        let low = self.distance(&point, order);
+        let low = self.distance(&point, stack);
         let point = point.with(w, halves.upper.midpoint());
-        let high = self.distance(&point, order);
+        let high = self.distance(&point, stack);
         let kept = if low < high {
             halves.lower
         } else {

@@ -9,30 +9,27 @@ ghost use Rattle.std.specs.Prelude.{◌≡◌, [], length};
 ghost use Rattle.settings.specs.Settings.{usual};
 ghost use Rattle.interval.specs.Views.{intervals_of};
 ghost use Rattle.constraint.specs.Constraint.{num_vars};
-ghost use Rattle.constraint.specs.Starts.{NoLarger};
 ghost use Rattle.constraint.specs.Views.{the_constraint};
 ghost use Rattle.point.specs.Check.{check};
 ghost use Rattle.nra.specs.Answers.{asked, answer_of, answered};
 ghost use Rattle.nra.specs.Calls.{answered_in, solve_file, solve_given};
 ghost use Rattle.nra.specs.Solver.{begin_empty, solve as solve_of};
-ghost use Rattle.record.specs.Views.{old};
 
 pub use answer::{Solved, Stop};
 use file::Problem;
 use halving::Task;
 use interval::{Domain, Point};
+use point::stack::Stack;
 use record::Refusal;
 
 // ---- an accepted problem
 
 // Where there is no variable: whether the empty point passes.
-#[tactic(auto, unfolding(crate::specs::Solver::begin_empty, number::specs::Computing::computing))]
-fn solve_empty(task: &Task, order: &mut [u16]) -> Solved
-    requires { NoLarger task.now.records.nodes.now (length order.old) }
+fn solve_empty(task: &Task, stack: &mut Stack) -> Solved
     ensures { answer_of result ≡ begin_empty (check task.now.settings [] (the_constraint task.now.records)) }
 {
     let point = Point::zeros(0);
-    if task.passes(&point, order) {
+    if task.passes(&point, stack) {
         return Solved::Assignment {
             point,
             exact: true,
@@ -47,20 +44,17 @@ fn solve_empty(task: &Task, order: &mut [u16]) -> Solved
 }
 
 // In these bounds, of n variables.
-#[tactic(auto, using(crate::proofs::Answering::solving))]
-fn solve_in(task: &Task, bounds: &Domain, n: usize, order: &mut [u16]) -> Solved
-    requires vars { n ≡ num_vars (the_constraint task.now.records) }
-    requires room { NoLarger task.now.records.nodes.now (length order.old) }
+fn solve_in(task: &Task, bounds: &Domain, n: usize, stack: &mut Stack) -> Solved
+    requires { n ≡ num_vars (the_constraint task.now.records) }
     ensures { answer_of result ≡ solve_of task.now.settings (asked task.now) (intervals_of bounds.now) task.now.limit }
 {
     if n == 0 {
-        return solve_empty(task, order);
+        return solve_empty(task, stack);
     }
-    task.run(bounds.starting(n), order)
+    task.run(bounds.starting(n), stack)
 }
 
-// Where there are places for a point: else 10. A short order is quicker to clear.
-#[tactic(auto, using(crate::proofs::Answering::placing), unfolding(crate::specs::Calls::room_refusal))]
+// Where there are places for a point: else 10.
 fn solve_task(task: &Task, bounds: &Domain, room: usize) -> Result<Solved, Refusal>
     ensures { answered result ≡ answered_in task.now.settings (asked task.now) (intervals_of bounds.now) task.now.limit room }
 {
@@ -68,16 +62,12 @@ fn solve_task(task: &Task, bounds: &Domain, room: usize) -> Result<Solved, Refus
     if room < n {
         return Err(Refusal::Room);
     }
-    if task.records.largest <= 64 {
-        return Ok(solve_in(task, bounds, n, &mut [0; 64]));
-    }
-    Ok(solve_in(task, bounds, n, &mut [0; 4096]))
+    Ok(solve_in(task, bounds, n, &mut Stack::new()))
 }
 
 // ---- what the exported calls call
 
 // Solves a house file. `room` is how many places the caller has for the point.
-#[tactic(auto, using(file::specs::FileLaws::file_refused, record::specs::RefusalLaws::never_none, record::specs::RefusalLaws::refuses, record::specs::RefusalLaws::refuses_first), unfolding(crate::specs::Calls::solve_file))]
 pub fn solve_file(file: &[u8], limit: usize, tolerance: f64, room: usize) -> Result<Solved, Refusal>
     ensures { answered result ≡ solve_file usual file.now limit tolerance room }
 {
@@ -87,7 +77,6 @@ pub fn solve_file(file: &[u8], limit: usize, tolerance: f64, room: usize) -> Res
 }
 
 // Solves records with bounds.
-#[tactic(auto, using(file::specs::FileLaws::given_refused, record::specs::RefusalLaws::never_none, record::specs::RefusalLaws::refuses, record::specs::RefusalLaws::refuses_first), unfolding(crate::specs::Calls::solve_given, crate::specs::Calls::boxes_refusal))]
 pub fn solve(
     nodes: &[u8],
     constraints: &[u8],

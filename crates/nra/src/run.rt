@@ -1,12 +1,11 @@
 // A run (document 01; nra.rs): all before the first halving, a halving with all that follows it, and many of them.
-#![tactic(auto, using(crate::proofs::Steps::tried_failed), unfolding(crate::specs::Solver::begin_in, crate::specs::Solver::begin_narrowed, crate::specs::Solver::begin_checked, crate::specs::Solver::settle_in, crate::specs::Solver::settle_narrowed, crate::specs::Solver::settle_checked, crate::specs::Solver::halve, crate::specs::Solver::distance, crate::specs::Solver::run, crate::specs::Solver::finish, crate::specs::Answers::tried, number::specs::Computing::computing))]
-
 ghost use Rattle.std.specs.Prelude.{◌≡◌, ◌+◌, ◌<◌, ◌≤◌, length};
 
 use super::answer::{Solved, Stop};
 use super::halving::Task;
 use interval::{Domain, Point};
 use narrow::{Mode, PropResult};
+use point::stack::Stack;
 use std::ops::ControlFlow;
 use std::ops::ControlFlow::{Break, Continue};
 
@@ -22,11 +21,9 @@ pub struct State {
 impl<'a> Task<'a> {
     ghost use Rattle.std.specs.ControlFlow.{MatchControlFlow};
     ghost use Rattle.interval.specs.Views.{intervals_of};
-    ghost use Rattle.constraint.specs.Starts.{NoLarger};
     ghost use Rattle.constraint.specs.Views.{the_constraint};
     ghost use Rattle.nra.specs.Answers.{asked, answer_of, state_of, progress_of, Narrows, Conflicts, tried_in};
     ghost use Rattle.nra.specs.Solver.{begin_in, settle_in, halve, steps};
-    ghost use Rattle.record.specs.Views.{old};
 
     // The narrowed boxes and their midpoint, unless narrowing meets a conflict.
     fn narrow(&self, start: Domain, halvings: usize) -> ControlFlow<Solved, (Domain, Point)>
@@ -50,13 +47,12 @@ impl<'a> Task<'a> {
     }
 
     // All before the first halving.
-    pub fn begin(&self, start: Domain, order: &mut [u16]) -> ControlFlow<Solved, State>
-        requires some { 0 < start.count }
-        requires room { NoLarger self.now.records.nodes.now (length order.old) }
+    pub fn begin(&self, start: Domain, stack: &mut Stack) -> ControlFlow<Solved, State>
+        requires { 0 < start.count }
         ensures { progress_of result ≡ begin_in self.now.settings (asked self.now) (intervals_of start) }
     {
         let (boxes, point) = self.narrow(start, 0)?;
-        if self.passes(&point, order) {
+        if self.passes(&point, stack) {
             return Break(Solved::Assignment {
                 point,
                 exact: boxes.all_below(self.tolerance),
@@ -67,13 +63,12 @@ impl<'a> Task<'a> {
     }
 
     // What follows a halving, up to the next.
-    fn settle(&self, half: Domain, halvings: usize, order: &mut [u16]) -> ControlFlow<Solved, State>
-        requires some { 0 < half.count }
-        requires room { NoLarger self.now.records.nodes.now (length order.old) }
+    fn settle(&self, half: Domain, halvings: usize, stack: &mut Stack) -> ControlFlow<Solved, State>
+        requires { 0 < half.count }
         ensures { progress_of result ≡ settle_in self.now.settings (asked self.now) halvings (intervals_of half) }
     {
         let (boxes, point) = self.narrow(half, halvings)?;
-        if self.passes(&point, order) {
+        if self.passes(&point, stack) {
             return Break(Solved::Assignment {
                 point,
                 exact: false,
@@ -83,7 +78,7 @@ impl<'a> Task<'a> {
         if boxes.all_below(self.tolerance) {
             return Break(Solved::Failed {
                 stop: Stop::Tolerance,
-                residual: self.distance(&point, order),
+                residual: self.distance(&point, stack),
                 halvings,
             });
         }
@@ -91,36 +86,32 @@ impl<'a> Task<'a> {
     }
 
     // A halving, and all that follows it up to the next.
-    pub fn halve(&self, state: State, order: &mut [u16]) -> ControlFlow<Solved, State>
-        requires few { state.halvings < 1_000_000 }
-        requires room { NoLarger self.now.records.nodes.now (length order.old) }
+    pub fn halve(&self, state: State, stack: &mut Stack) -> ControlFlow<Solved, State>
+        requires { state.halvings < 1_000_000 }
         ensures { progress_of result ≡ halve self.now.settings (asked self.now) (state_of state) }
     {
-        let half = self.halved(state.boxes, order);
-        self.settle(half, state.halvings + 1, order)
+        let half = self.halved(state.boxes, stack);
+        self.settle(half, state.halvings + 1, stack)
     }
 
     // Halves until the run breaks off or has made as many halvings as its limit.
-    #[tactic(auto, using(crate::proofs::Steps::run_steps))]
-    pub fn steps(&self, start: Domain, order: &mut [u16]) -> ControlFlow<Solved, State>
-        requires some { 0 < start.count }
-        requires room { NoLarger self.now.records.nodes.now (length order.old) }
+    pub fn steps(&self, start: Domain, stack: &mut Stack) -> ControlFlow<Solved, State>
+        requires { 0 < start.count }
         ensures { progress_of result ≡ steps self.now.settings (asked self.now) self.now.limit (begin_in self.now.settings (asked self.now) (intervals_of start)) }
     {
-        let mut state = self.begin(start, order)?;
+        let mut state = self.begin(start, stack)?;
         for _ in 0..self.limit {
-            state = self.halve(state, order)?;
+            state = self.halve(state, stack)?;
         }
         Continue(state)
     }
 
     // From the starting boxes.
-    pub fn run(&self, start: Domain, order: &mut [u16]) -> Solved
-        requires some { 0 < start.count }
-        requires room { NoLarger self.now.records.nodes.now (length order.old) }
+    pub fn run(&self, start: Domain, stack: &mut Stack) -> Solved
+        requires { 0 < start.count }
         ensures { answer_of result ≡ tried_in self.now.settings (asked self.now) self.now.limit (intervals_of start) }
     {
-        match self.steps(start, order) {
+        match self.steps(start, stack) {
             Break(solved) => {
                 if self.limit == 0 {
                     return solved.untried();
@@ -129,7 +120,7 @@ impl<'a> Task<'a> {
             }
             Continue(state) => Solved::Failed {
                 stop: Stop::Limit,
-                residual: self.distance(&state.boxes.midpoints(), order),
+                residual: self.distance(&state.boxes.midpoints(), stack),
                 halvings: state.halvings,
             },
         }

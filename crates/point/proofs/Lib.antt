@@ -1,6 +1,3 @@
 mod Threshold
 mod Machine
-mod Flattening
-mod Loop
-mod Measuring
 mod Answers

@@ -4,7 +4,6 @@ pub mod Check
 pub mod Residual
 pub mod Measure
 pub mod MeasureLaws
-pub mod Room
 pub mod Answer
 pub mod Laws
 pub mod Computing

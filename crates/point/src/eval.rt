@@ -1,15 +1,14 @@
-// A tree's value at a point (eval.rs): the tree's postorder, then a stack of complex numbers.
-ghost use Rattle.std.specs.Prelude.{◌≡◌, [], ◌<◌, ◌≤◌, ◌+◌, length};
-ghost use Rattle.tree.specs.Tree.{size};
-ghost use Rattle.tree.specs.Nodes.{Valid, tree_at};
-ghost use Rattle.point.specs.Eval.{real as real_of, clamped, beyond, eml_complex, variable as variable_of, and_then, eval_complex, real_part, eval_real};
-ghost use Rattle.point.specs.Machine.{instruction_of, instructions, Flattened, Runs, run as running, top};
+// A tree's value at a point (eval.rs): its instructions in postorder, on a stack of complex numbers.
+ghost use Rattle.std.specs.Prelude.{◌≡◌, ◌≤◌, ◌+◌, length};
+ghost use Rattle.tree.specs.Tree.{depth};
+ghost use Rattle.point.specs.Eval.{real as real_of, clamped, beyond, eml_complex, variable as variable_of, eval_complex, real_part, eval_real};
+ghost use Rattle.point.specs.Machine.{height, reduced, step as stepped, pushed, ran};
 ghost use Rattle.tree.specs.Views.{the_tree};
-ghost use Rattle.record.specs.Views.{final};
 
+use super::stack::Stack;
 use maths::Complex;
 use settings::Settings;
-use tree::Node;
+use tree::{EmlTree, Node};
 
 #[derive(Clone, Copy)]
 pub enum Instruction {
@@ -27,34 +26,6 @@ pub enum EvalError {
     NanEncountered,
     ComplexResult(f64),
     ExpOverflow(f64),
-}
-
-// What the machine does at a node, once the node's children are on the stack.
-fn instruction_of(node: Node) -> Instruction
-    ensures { result ≡ instruction_of node }
-{
-    match node {
-        Node::One => Instruction::PushOne,
-        Node::Const(v) => Instruction::PushConst(v),
-        Node::Var(i) => Instruction::PushVar(i),
-        Node::Eml(_, _) => Instruction::Eml,
-    }
-}
-
-// Writes the postorder of node k's tree into the first places of order, and returns how many they are.
-fn flatten_postorder(nodes: &[u8], k: usize, order: &mut [u16]) -> usize
-    requires valid { Valid nodes.now (k + 1) }
-    requires k_in_bounds { size (tree_at nodes.now k) ≤ length order.old }
-    ensures { Flattened nodes.now (final order) result (the_tree nodes k) }
-{
-    let Node::Eml(left, right) = tree::node_in(nodes, k) else {
-        order[0] = k as u16;
-        return 1;
-    };
-    let middle = flatten_postorder(nodes, left, order);
-    let end = middle + flatten_postorder(nodes, right, &mut order[middle..]);
-    order[end] = k as u16;
-    end + 1
 }
 
 // The library's `clamp` requires its ends in order, and the settings may hold any number.
@@ -115,52 +86,64 @@ fn variable(i: usize, point: &[f64]) -> Result<Complex, EvalError>
     Ok(real(point[i]))
 }
 
-// Runs the nodes' instructions. The stack is the first `height` of the places.
-fn run(
-    nodes: &[u8],
-    order: &[u16],
-    settings: Settings,
-    point: &[f64],
-    places: &mut [Complex],
-) -> Result<Complex, EvalError>
-    requires { Runs nodes.now order.now (length places.old) }
-    ensures { result ≡ and_then (running settings point.now (instructions nodes.now order.now) []) top }
+// An Eml of the two values on top of the stack, which are taken from it.
+fn reduce(settings: Settings, stack: &mut Stack) -> Result<Complex, EvalError>
+    ensures { pushed result stack.new ≡ reduced settings stack.old }
 {
-    let mut height = 0;
-    for k in order {
-        let value = match instruction_of(tree::node_in(nodes, *k as usize)) {
-            Instruction::PushOne => real(1.0),
-            Instruction::PushConst(v) => real(v),
-            Instruction::PushVar(i) => variable(i, point)?,
-            Instruction::Eml => {
-                height -= 2;
-                eml_complex(settings, places[height], places[height + 1])?
-            }
-        };
-        places[height] = value;
-        height += 1;
-    }
-    Ok(places[0])
+    let right = stack.pop().ok_or(EvalError::NanEncountered)?;
+    let left = stack.pop().ok_or(EvalError::NanEncountered)?;
+    eml_complex(settings, left, right)
 }
 
-// The order is lent, so that it is made once for many evaluations. The stack is made for each; most trees are short, and a short one is
-// quicker to clear.
-pub fn eval_complex(
-    nodes: &[u8],
-    k: usize,
+fn step(
+    instruction: Instruction,
     settings: Settings,
     point: &[f64],
-    order: &mut [u16],
-) -> Result<Complex, EvalError>
-    requires valid { Valid nodes.now (k + 1) }
-    requires k_in_bounds { size (tree_at nodes.now k) ≤ length order.old }
-    ensures { result ≡ eval_complex settings point.now (the_tree nodes k) }
+    stack: &mut Stack,
+) -> Result<(), EvalError>
+    requires { height (length stack.old) instruction ≤ 128 }
+    ensures { ran result stack.new ≡ stepped settings point.now instruction stack.old }
 {
-    let n = flatten_postorder(nodes, k, order);
-    if n < 32 {
-        return run(nodes, &order[..n], settings, point, &mut [real(0.0); 16]);
-    }
-    run(nodes, &order[..n], settings, point, &mut [real(0.0); 128])
+    let value = match instruction {
+        Instruction::PushOne => Ok(real(1.0)),
+        Instruction::PushConst(v) => Ok(real(v)),
+        Instruction::PushVar(i) => variable(i, point),
+        Instruction::Eml => reduce(settings, stack),
+    };
+    stack.push(value?);
+    Ok(())
+}
+
+// The tree's instructions in postorder: its value comes on top of the stack.
+fn run(tree: EmlTree, settings: Settings, point: &[f64], stack: &mut Stack) -> Result<(), EvalError>
+    requires { length stack.old + depth (the_tree tree) ≤ 128 }
+    ensures { ran result stack.new ≡ pushed (eval_complex settings point.now (the_tree tree.entry)) stack.old }
+{
+    let instruction = match tree.node() {
+        Node::One => Instruction::PushOne,
+        Node::Const(v) => Instruction::PushConst(v),
+        Node::Var(i) => Instruction::PushVar(i),
+        Node::Eml(left, right) => {
+            run(left, settings, point, stack)?;
+            run(right, settings, point, stack)?;
+            Instruction::Eml
+        }
+    };
+    step(instruction, settings, point, stack)
+}
+
+// The stack is lent, so that it is made once for many evaluations.
+pub fn eval_complex(
+    tree: EmlTree,
+    settings: Settings,
+    point: &[f64],
+    stack: &mut Stack,
+) -> Result<Complex, EvalError>
+    ensures { result ≡ eval_complex settings point.now (the_tree tree.entry) }
+{
+    stack.clear();
+    run(tree, settings, point, stack)?;
+    stack.pop().ok_or(EvalError::NanEncountered)
 }
 
 fn real_part(z: Complex) -> Result<f64, EvalError>
@@ -177,15 +160,12 @@ fn real_part(z: Complex) -> Result<f64, EvalError>
 }
 
 pub fn eval_real(
-    nodes: &[u8],
-    k: usize,
+    tree: EmlTree,
     settings: Settings,
     point: &[f64],
-    order: &mut [u16],
+    stack: &mut Stack,
 ) -> Result<f64, EvalError>
-    requires valid { Valid nodes.now (k + 1) }
-    requires k_in_bounds { size (tree_at nodes.now k) ≤ length order.old }
-    ensures { result ≡ eval_real settings point.now (the_tree nodes k) }
+    ensures { result ≡ eval_real settings point.now (the_tree tree.entry) }
 {
-    real_part(eval_complex(nodes, k, settings, point, order)?)
+    real_part(eval_complex(tree, settings, point, stack)?)
 }

@@ -1,19 +1,20 @@
 // A point against a constraint (helpers.rs): the check and the residual, by one recursion over the constraint's records.
-ghost use Rattle.std.specs.Prelude.{◌≡◌, ◌+◌, ◌≤◌, ◌<◌, Bool, List, Float, Result, length};
+ghost use Rattle.std.specs.Prelude.{◌≡◌, Bool, List, Float, Result};
 ghost use Rattle.settings.specs.declared.Settings.{Settings};
 ghost use Rattle.constraint.specs.declared.Relation.{Relation};
 ghost use Rattle.constraint.specs.Constraint.{Constraint};
-ghost use Rattle.constraint.specs.Starts.{NoLarger};
-ghost use Rattle.constraint.specs.Views.{constraint_of, constraints_before, Taken};
+ghost use Rattle.interval.specs.Views.{values_of};
+ghost use Rattle.constraint.specs.Records.{gather};
+ghost use Rattle.constraint.specs.Views.{meaning, meanings};
 ghost use Rattle.point.specs.declared.eval.EvalError.{EvalError};
 ghost use Rattle.point.specs.declared.helpers.Each.{Each};
 ghost use Rattle.point.specs.Check.{check};
 ghost use Rattle.point.specs.Residual.{residual};
 ghost use Rattle.point.specs.Measure.{Measures, joined, quantified};
-ghost use Rattle.record.specs.Views.{old};
 
 use super::eval::{self, EvalError};
-use constraint::{Record, Records, Relation};
+use super::stack::Stack;
+use constraint::{EmlConstraint, Operands, Relation, Shape};
 use interval::Point;
 use settings::Settings;
 
@@ -69,91 +70,72 @@ pub trait Measure: Copy {
 
 #[cycle(measured)]
 pub(crate) fn measured<M: Measure>(
-    records: &Records,
-    k: usize,
+    c: EmlConstraint,
     settings: Settings,
-    point: &[f64],
-    order: &mut [u16],
+    point: &Point,
+    stack: &mut Stack,
 ) -> M
-    requires k_in_bounds { k < records.now.count }
-    requires few { length point.now ≤ 16 }
-    requires room { NoLarger records.now.nodes.now (length order.old) }
-    ensures { result ≡ M.measure settings point.now (constraint_of records.now k) }
+    ensures { result ≡ M.measure settings (values_of point.now) (meaning c.entry) }
 {
-    match constraint::record_in(records.constraints, k) {
-        Record::Atom(relation, i) => {
-            let value = eval::eval_real(records.nodes, i, settings, point, order);
+    match c.shape() {
+        Shape::Atom(relation, tree) => {
+            let value = eval::eval_real(tree, settings, point.as_slice(), stack);
             M::atom(settings, relation, value)
         }
-        Record::Not => {
-            let inner: M = measured(records, k - 1, settings, point, order);
+        Shape::Not(denied) => {
+            let inner: M = measured(denied, settings, point, stack);
             inner.denied()
         }
-        Record::And(m) => measured_each(records, m, k, settings, Each::All, point, order),
-        Record::Or(m) => measured_each(records, m, k, settings, Each::Any, point, order),
-        Record::ForAll(v, lo, hi) => {
-            measured_samples(records, k - 1, settings, Each::All, v, lo, hi, point, order)
+        Shape::And(cs) => measured_each(cs, settings, Each::All, point, stack),
+        Shape::Or(cs) => measured_each(cs, settings, Each::Any, point, stack),
+        Shape::ForAll(v, lo, hi, body) => {
+            measured_samples(body, settings, Each::All, v, lo, hi, point, stack)
         }
-        Record::Exists(v, lo, hi) => {
-            measured_samples(records, k - 1, settings, Each::Any, v, lo, hi, point, order)
+        Shape::Exists(v, lo, hi, body) => {
+            measured_samples(body, settings, Each::Any, v, lo, hi, point, stack)
         }
     }
 }
 
-// Of the last m constraints before record end, oldest first. Those after the one that settles it are not looked at.
+// Of several, oldest first. Those after the one that settles it are not looked at.
 #[cycle(measured)]
 fn measured_each<M: Measure>(
-    records: &Records,
-    m: usize,
-    end: usize,
+    cs: Operands,
     settings: Settings,
     each: Each,
-    point: &[f64],
-    order: &mut [u16],
+    point: &Point,
+    stack: &mut Stack,
 ) -> M
-    requires taken { Taken records.now m end }
-    requires few { length point.now ≤ 16 }
-    requires room { NoLarger records.now.nodes.now (length order.old) }
-    ensures { result ≡ M.measure settings point.now (joined each (constraints_before records.now m end)) }
+    ensures { result ≡ M.measure settings (values_of point.now) (joined each (gather (meanings cs.entry))) }
 {
-    if m == 0 {
+    let Some((last, others)) = cs.split_last() else {
         return M::none(each);
-    }
-    let last = end - 1;
-    let start = records.start(last);
-    let before: M = measured_each(records, m - 1, start, settings, each, point, order);
+    };
+    let before: M = measured_each(others, settings, each, point, stack);
     if before.is_settled(each) {
         return before;
     }
-    before.one_more(each, measured(records, last, settings, point, order))
+    before.one_more(each, measured(last, settings, point, stack))
 }
 
-// Of constraint k with variable v at each of a quantifier's samples, likewise.
+// Of a constraint with variable v at each of a quantifier's samples, likewise.
 #[cycle(measured)]
 fn measured_samples<M: Measure>(
-    records: &Records,
-    k: usize,
+    c: EmlConstraint,
     settings: Settings,
     each: Each,
     v: usize,
     lo: f64,
     hi: f64,
-    point: &[f64],
-    order: &mut [u16],
+    point: &Point,
+    stack: &mut Stack,
 ) -> M
-    requires k_in_bounds { k < records.now.count }
-    requires few { length point.now ≤ 16 }
-    requires room { NoLarger records.now.nodes.now (length order.old) }
-    ensures { result ≡ M.measure settings point.now (quantified each v lo hi (constraint_of records.now k)) }
+    ensures { result ≡ M.measure settings (values_of point.now) (quantified each v lo hi (meaning c.entry)) }
 {
-    let outer = Point::new(point);
     let mut total = M::none(each);
     for x in [lo, (lo + hi) / 2.0, hi] {
-        let inner = outer.with(v, x);
-        total = total.sample_more(
-            each,
-            measured(records, k, settings, inner.as_slice(), order),
-        );
+        let inner = point.with(v, x);
+        total = total.sample_more(each, measured(c, settings, &inner, stack));
         if total.is_settled(each) {
             return total;
         }
@@ -161,34 +143,26 @@ fn measured_samples<M: Measure>(
     total
 }
 
-// Whether the point passes the check of record k's constraint. The order is lent for the evaluations.
+// Whether the point passes the constraint's check. The stack is lent for the evaluations.
 pub fn check_constraint(
-    records: &Records,
-    k: usize,
+    c: EmlConstraint,
     settings: Settings,
-    point: &[f64],
-    order: &mut [u16],
+    point: &Point,
+    stack: &mut Stack,
 ) -> bool
-    requires k_in_bounds { k < records.now.count }
-    requires few { length point.now ≤ 16 }
-    requires room { NoLarger records.now.nodes.now (length order.old) }
-    ensures { result ≡ check settings point.now (constraint_of records.now k) }
+    ensures { result ≡ check settings (values_of point.now) (meaning c.entry) }
 {
-    measured(records, k, settings, point, order)
+    measured(c, settings, point, stack)
 }
 
 // How far the point is from meeting it.
 pub fn evaluate_constraint_residual(
-    records: &Records,
-    k: usize,
+    c: EmlConstraint,
     settings: Settings,
-    point: &[f64],
-    order: &mut [u16],
+    point: &Point,
+    stack: &mut Stack,
 ) -> f64
-    requires k_in_bounds { k < records.now.count }
-    requires few { length point.now ≤ 16 }
-    requires room { NoLarger records.now.nodes.now (length order.old) }
-    ensures { result ≡ residual settings point.now (constraint_of records.now k) }
+    ensures { result ≡ residual settings (values_of point.now) (meaning c.entry) }
 {
-    measured(records, k, settings, point, order)
+    measured(c, settings, point, stack)
 }

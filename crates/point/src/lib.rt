@@ -5,15 +5,13 @@ mod checking;
 pub mod eval; // eval.rs: a tree's value
 pub mod helpers; // helpers.rs: the check and the residual
 mod shortfalls;
+pub mod stack;
 
-ghost use Rattle.std.specs.Prelude.{◌≡◌, ◌+◌, ◌≤◌, length, IfOk, OnOk};
+ghost use Rattle.std.specs.Prelude.{◌≡◌, IfOk};
 ghost use Rattle.settings.specs.Settings.{usual};
-ghost use Rattle.constraint.specs.Starts.{NoLarger};
-ghost use Rattle.constraint.specs.Views.{the_constraint};
-ghost use Rattle.tree.specs.Tree.{size};
-ghost use Rattle.tree.specs.Nodes.{Valid, tree_at};
+ghost use Rattle.interval.specs.Views.{values_of};
+ghost use Rattle.tree.specs.Nodes.{tree_at};
 ghost use Rattle.tree.specs.Views.{the_tree};
-ghost use Rattle.point.specs.Eval.{eval_real};
 ghost use Rattle.file.specs.Code.{Holds};
 ghost use Rattle.record.specs.Refused.{refusal_of, numbered};
 ghost use Rattle.point.specs.Answer.{eval_refusal, eval_answer, point_refusal, answer_of, check_answer, residual_answer};
@@ -21,39 +19,31 @@ ghost use Rattle.point.specs.Answer.{eval_refusal, eval_answer, point_refusal, a
 use constraint::Records;
 use eval::EvalError;
 use helpers::Measure;
+use interval::Point;
 use record::Refusal;
+use stack::Stack;
+use tree::EmlTree;
 
-// The tests of eval_real, and the size of the largest tree.
-fn test_node(nodes: &[u8], k: usize, point: &[f64]) -> Result<usize, Refusal>
+// The tests of eval_real, and the node's tree.
+fn test_node<'a>(nodes: &'a [u8], k: usize, point: &[f64]) -> Result<EmlTree<'a>, Refusal>
     ensures refusal { refusal_of result ≡ eval_refusal nodes.now k point.now }
-    ensures valid { OnOk result (Valid nodes.now (k + 1)) }
-    ensures largest { IfOk result (NoLarger nodes.now) }
+    ensures tree { IfOk result (λ t. the_tree t ≡ tree_at nodes.now k) }
 {
     if nodes.len() % 16 != 0 {
         return Err(Refusal::Counts);
     }
     let count = nodes.len() / 16;
-    let largest = tree::test_sizes(nodes, count)?;
+    tree::test_sizes(nodes, count)?;
     if count <= k {
         return Err(Refusal::Node);
     }
     if 16 < point.len() {
         return Err(Refusal::Boxes);
     }
-    Ok(largest)
+    Ok(EmlTree { nodes, root: k })
 }
 
-// With an order of N places.
-fn eval_within<const N: usize>(nodes: &[u8], k: usize, point: &[f64]) -> Result<f64, EvalError>
-    requires valid { Valid nodes.now (k + 1) }
-    requires room { (size (tree_at nodes.now k) ≤ N) × (N ≤ 4096) }
-    ensures { result ≡ eval_real usual point.now (the_tree nodes k) }
-{
-    let mut order = [0; N];
-    eval::eval_real(nodes, k, settings::usual(), point, &mut order)
-}
-
-// The value of a node's tree at the point. A short order is quicker to clear.
+// The value of a node's tree at the point.
 pub fn eval_real(
     nodes: &[u8],
     node: usize,
@@ -61,12 +51,8 @@ pub fn eval_real(
 ) -> Result<Result<f64, EvalError>, Refusal>
     ensures { numbered result ≡ eval_answer usual nodes.now node point.now }
 {
-    let largest = test_node(nodes, node, point)?;
-    if largest <= 64 {
-        Ok(eval_within::<64>(nodes, node, point))
-    } else {
-        Ok(eval_within::<4096>(nodes, node, point))
-    }
+    let tree = test_node(nodes, node, point)?;
+    Ok(eval::eval_real(tree, settings::usual(), point, &mut Stack::new()))
 }
 
 // The tests of records and of a point.
@@ -74,43 +60,24 @@ fn test_point<'a>(
     nodes: &'a [u8],
     constraints: &'a [u8],
     point: &[f64],
-) -> Result<Records<'a>, Refusal>
+) -> Result<(Records<'a>, Point), Refusal>
     ensures refusal { refusal_of result ≡ point_refusal nodes.now constraints.now point.now }
-    ensures records { IfOk result (Holds nodes.now constraints.now) }
-    ensures few { OnOk result (length point.now ≤ 16) }
+    ensures value { IfOk result (λ p. Holds nodes.now constraints.now p.0 × (values_of p.1 ≡ point.now)) }
 {
     let records = file::read_given(nodes, constraints)?;
     if 16 < point.len() {
         return Err(Refusal::Boxes);
     }
-    Ok(records)
+    Ok((records, Point::new(point)))
 }
 
-// The measure of the constraint that the records leave, with an order of N places.
-fn measured_within<M: Measure, const N: usize>(records: &Records, point: &[f64]) -> M
-    requires few { length point.now ≤ 16 }
-    requires room { NoLarger records.now.nodes.now N × (N ≤ 4096) }
-    ensures { result ≡ M.measure usual point.now (the_constraint records.now) }
-{
-    let mut order = [0; N];
-    helpers::measured(
-        records,
-        records.root(),
-        settings::usual(),
-        point,
-        &mut order,
-    )
-}
-
+// The measure of the constraint that the records leave.
 fn answer<M: Measure>(nodes: &[u8], constraints: &[u8], point: &[f64]) -> Result<M, Refusal>
     ensures { numbered result ≡ answer_of (M.measure usual point.now) nodes.now constraints.now point.now }
 {
-    let records = test_point(nodes, constraints, point)?;
-    if records.largest <= 64 {
-        Ok(measured_within::<M, 64>(&records, point))
-    } else {
-        Ok(measured_within::<M, 4096>(&records, point))
-    }
+    let (records, point) = test_point(nodes, constraints, point)?;
+    let c = records.constraint();
+    Ok(helpers::measured(c, settings::usual(), &point, &mut Stack::new()))
 }
 
 // Whether the point passes the check of the constraint.

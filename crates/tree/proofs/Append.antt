@@ -66,7 +66,7 @@ module _ (b : List ℕ) (n x : ℕ) where
   ln_late none e h = late b n x x 4 (ln_tree (tree_at b x)) none e h ∙ ln_is
 
 -- ---- the outcome
-module _ (b : List ℕ) (n : ℕ) (xs : List Node) (last : ℕ) {s : ℕ} where
+module _ (b : List ℕ) (n : ℕ) (xs : List (Node ℕ)) (last : ℕ) {s : ℕ} where
   pub append_refused : (r : Refusal) → number_of r ≡ s → (Err (number_of r) leaving b) ≡ append s b n xs last
   append_refused r e = is_refused (λ (k : ℕ). Err k leaving b) _ e (never_none r)
 

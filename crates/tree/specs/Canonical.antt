@@ -16,11 +16,11 @@ abbrev pub sub_tree : Tree → Tree → Tree
 sub_tree x y = Tree.Eml (ln_tree x) (Tree.Eml y Tree.One)
 
 -- ---- the nodes, from number n on: One, inner, middle, outer
-abbrev pub ln_nodes : ℕ → ℕ → List Node
+abbrev pub ln_nodes : ℕ → ℕ → List (Node ℕ)
 ln_nodes n x = Node.One ∷ Node.Eml n x ∷ Node.Eml (n + 1) n ∷ Node.Eml n (n + 2) ∷ []
 
 -- One, the four of ln, exp_y, result
-abbrev pub sub_nodes : ℕ → ℕ → ℕ → List Node
+abbrev pub sub_nodes : ℕ → ℕ → ℕ → List (Node ℕ)
 sub_nodes n x y = Node.One ∷ ln_nodes (n + 1) x ++ Node.Eml y n ∷ Node.Eml (n + 4) (n + 5) ∷ []
 
 -- ---- the refusals, in document 01's order: the list's own tests; 3; 4; 10
@@ -39,7 +39,7 @@ sub_refusal b n x y = append_refusal b n (ltb x n && ltb y n) (sub_tree (tree_at
 
 -- ---- the answer, and the list at exit
 -- a refusal returns its number and alters nothing; else the number of the last node appended
-abbrev pub append : ℕ → List ℕ → ℕ → List Node → ℕ → Leaving (Result ℕ ℕ) (List ℕ)
+abbrev pub append : ℕ → List ℕ → ℕ → List (Node ℕ) → ℕ → Leaving (Result ℕ ℕ) (List ℕ)
 append refusal b n ns last = refused_or refusal (λ r. Err r leaving b) (Ok last leaving sets b (16 * n) (nodes_bytes ns))
 
 unfoldable pub ln : List ℕ → ℕ → ℕ → Leaving (Result ℕ ℕ) (List ℕ)

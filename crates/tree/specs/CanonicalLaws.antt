@@ -89,7 +89,7 @@ module _ (c : List ℕ) (k x : ℕ) (t : Tree) (v : Valid c k) (few : k + 4 ≤ 
       (omega arith) (omega arith) outer small
 
 -- ---- the list after m nodes were appended
-module _ (b : List ℕ) (n : ℕ) (xs : List Node) (there : 16 * (n + length xs) ≤ length b) where
+module _ (b : List ℕ) (n : ℕ) (xs : List (Node ℕ)) (there : 16 * (n + length xs) ≤ length b) where
   abbrev after : List ℕ
   after = sets b (16 * n) (nodes_bytes xs)
 
@@ -155,7 +155,7 @@ module _ (b : List ℕ) (n x y : ℕ) (e : sub_refusal b n x y ≡ 0) where
 pub refused_at : {A : Type 0} {x y : A} {r k : ℕ} → (Err r leaving x) ≡ (Ok k leaving y) → ⊥
 refused_at e = let z : ◌≡◌ {A = ℕ} 0 1 = cc (same_answer e) in omega arith
 
-appended : (r : ℕ) (b : List ℕ) (n : ℕ) (xs : List Node) (last k : ℕ) (c : List ℕ) → append r b n xs last ≡ (Ok k leaving c) →
+appended : (r : ℕ) (b : List ℕ) (n : ℕ) (xs : List (Node ℕ)) (last k : ℕ) (c : List ℕ) → append r b n xs last ≡ (Ok k leaving c) →
     (r ≡ 0) × (last ≡ k) × (sets b (16 * n) (nodes_bytes xs) ≡ c)
 appended r b n xs last k c e = let w = not_refused r _ _ (λ m. refused_at) e in (w.0, cc (same_answer w.1), same_places w.1)
 

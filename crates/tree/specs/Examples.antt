@@ -10,7 +10,7 @@ use Rattle.tree.specs.Computing.{computing}
 use Rattle.tree.specs.declared.Node.{Node}
 
 -- the refusal of all nodes of a list
-abbrev refusal : List Node → ℕ
+abbrev refusal : List (Node ℕ) → ℕ
 refusal ns = list_refusal (nodes_bytes ns) (length ns)
 
 -- Var 3 and Const 1, byte by byte
@@ -23,7 +23,7 @@ unfolding computing
 const_bytes = refl
 
 -- a list that is accepted, and the tree of its last node
-abbrev some : List Node
+abbrev some : List (Node ℕ)
 some = Node.One ∷ Node.Var 15 ∷ Node.Const (bits 0x8000000000000000) ∷ Node.Eml 0 1 ∷ Node.Eml 3 2 ∷ []
 
 some_accepted : refusal some ≡ 0
@@ -57,10 +57,10 @@ unfolding computing
 unused_byte = refl
 
 -- each node has the one before it as both children: node 10's size is 2047, node 11's 4095, node 12's 8191
-abbrev doubled : ℕ → List Node
+abbrev doubled : ℕ → List (Node ℕ)
 doubled n = Node.Eml n n ∷ []
 
-abbrev twelve : List Node
+abbrev twelve : List (Node ℕ)
 twelve =
     Node.One ∷ doubled 0 ++ doubled 1 ++ doubled 2 ++ doubled 3 ++ doubled 4 ++ doubled 5 ++ doubled 6
     ++ doubled 7 ++ doubled 8 ++ doubled 9 ++ doubled 10

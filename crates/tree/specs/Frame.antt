@@ -53,7 +53,7 @@ module _ (b c : List ℕ) (n : ℕ) (same : (i : ℕ) → i < 16 * n → get_or 
   unfolding trees
   trees_same zero h = refl
   trees_same (suc k) h =
-      ap₂ (λ (ts : List Tree) (x : Node). ts ++ tree_of ts x ∷ []) (trees_same k (omega arith)) (node_same b c k k (record_same k h))
+      ap₂ (λ (ts : List Tree) (x : Node ℕ). ts ++ tree_of ts x ∷ []) (trees_same k (omega arith)) (node_same b c k k (record_same k h))
 
   pub tree_same : (k : ℕ) → k < n → tree_at b k ≡ tree_at c k
   unfolding tree_at

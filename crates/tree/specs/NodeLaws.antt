@@ -49,7 +49,7 @@ module _ (b : List ℕ) (k : ℕ) where
   tree_eml l r p q e = ap (tree_of (trees b k)) e ∙ ap₂ Tree.Eml (tree_before b k l p) (tree_before b k r q)
 
 -- ---- what a node record that is one says
-abbrev pub Right : ℕ → Node → Type 0
+abbrev pub Right : ℕ → Node ℕ → Type 0
 Right own Node.One = Unit {0}
 Right own (Node.Const v) = T (finite v)
 Right own (Node.Var i) = i < 16
@@ -128,7 +128,7 @@ module _ (b : List ℕ) (n : ℕ) (v : Valid b n) where
   vars_below zero k h l = absurd (not-suc-le-zero h)
   vars_below (suc f) k h l = of (node_at b k) refl (λ j p. vars_below f j (omega arith) (omega arith))
     where
-      of : (x : Node) → node_at b k ≡ x → ((j : ℕ) → j < k → tree_vars (tree_at b j) ≤ 16) → tree_vars (tree_at b k) ≤ 16
+      of : (x : Node ℕ) → node_at b k ≡ x → ((j : ℕ) → j < k → tree_vars (tree_at b j) ≤ 16) → tree_vars (tree_at b k) ≤ 16
       of Node.One e below = rw (tree_one b k e) (omega arith)
       of (Node.Const v) e below = rw (tree_const b k v e) (omega arith)
       of (Node.Var i) e below = rw (tree_var b k i e) (index_small k l i e)

@@ -8,7 +8,7 @@ use Rattle.tree.specs.Tree.{Tree, is_small}
 use Rattle.tree.specs.declared.Node.{Node}
 
 -- what record k says: One, Const, Var, Eml by kind, read with no test
-unfoldable pub node_at : List ℕ → ℕ → Node
+unfoldable pub node_at : List ℕ → ℕ → Node ℕ
 node_at b k =
     let at = 16 * k in
     when eqb (u32_at b at) 0 then Node.One
@@ -31,7 +31,7 @@ is_node b k =
     else false
 
 -- a node's tree, by the trees of the nodes before it
-unfoldable pub tree_of : List Tree → Node → Tree
+unfoldable pub tree_of : List Tree → Node ℕ → Tree
 tree_of before Node.One = Tree.One
 tree_of before (Node.Const v) = Tree.Const v
 tree_of before (Node.Var i) = Tree.Var i

@@ -11,23 +11,22 @@ ghost use Rattle.record.specs.Refusal.{◌unless◌};
 ghost use Rattle.record.specs.Refused.{refusal_of, numbered};
 ghost use Rattle.record.specs.Leaving.{◌leaving◌};
 ghost use Rattle.tree.specs.Tree.{Tree, tree_vars};
-ghost use Rattle.tree.specs.Nodes.{node_at, is_node, nodes_fit, list_refusal, Valid};
+ghost use Rattle.tree.specs.Nodes.{node_at, tree_at, is_node, nodes_fit, list_refusal, Valid};
 ghost use Rattle.tree.specs.Code.{right_end, left_end, chosen, IsExtent, small_extent, Small, Measured, Held, largest};
 ghost use Rattle.tree.specs.Code.{operands_refusal, result_refusal};
 ghost use Rattle.tree.specs.Canonical.{ln_tree, sub_tree, ln_nodes, sub_nodes, ln_refusal, sub_refusal, ln as ln_of, sub as sub_of};
 ghost use Rattle.tree.specs.Encoding.{node_bytes, nodes_bytes};
-ghost use Rattle.tree.specs.Views.{the_tree};
 ghost use Rattle.record.specs.Views.{old, final};
 
 use record::Refusal;
 
-// What a node's record says: a constant, a variable's index, the numbers of two children.
+// What a node says: a constant, a variable's index, or two children, in its record their numbers.
 #[derive(Clone, Copy)]
-pub enum Node {
+pub enum Node<T> {
     One,
     Const(f64),
     Var(usize),
-    Eml(usize, usize),
+    Eml(T, T),
 }
 
 // ---- a node's record
@@ -80,7 +79,7 @@ pub fn is_node(nodes: &[u8], k: usize) -> bool
 
 // Node k, read with no test.
 #[tactic(auto, using(crate::proofs::Tests::node_reads))]
-pub fn node_in(nodes: &[u8], k: usize) -> Node
+pub fn node_in(nodes: &[u8], k: usize) -> Node<usize>
     requires { 16 * k + 16 ≤ length nodes.now }
     ensures { result ≡ node_at nodes.now k }
 {
@@ -178,7 +177,7 @@ impl Extent {
 #[tactic(auto, using(crate::specs::NodeLaws::node_trees), unfolding(crate::specs::Tree::size, crate::specs::Tree::depth))]
 fn measure(nodes: &[u8], k: usize, extents: &[SmallExtent]) -> Extent
     requires { (16 * k + 16 ≤ length nodes.now) × (is_node nodes.now k ≡ true) × Held nodes.now k extents.now }
-    ensures { IsExtent (the_tree nodes k) result }
+    ensures { IsExtent (tree_at nodes.now k) result }
 {
     match node_in(nodes, k) {
         Node::Eml(l, r) => Extent::from(extents[l]).eml(Extent::from(extents[r])),
@@ -241,19 +240,41 @@ pub fn test_sizes(nodes: &[u8], count: usize) -> Result<usize, Refusal>
 
 // ---- a node's tree
 
-// The number of variables of node k's tree.
-#[tactic(auto, using(crate::specs::NodeLaws::node_trees, crate::specs::NodeLaws::valid_trees), unfolding(crate::specs::Tree::tree_vars))]
-pub fn num_vars(nodes: &[u8], k: usize) -> usize
-    requires { Valid nodes.now (k + 1) }
-    ensures { result ≡ tree_vars (the_tree nodes k) }
-{
-    match node_in(nodes, k) {
-        Node::One | Node::Const(_) => 0,
-        Node::Var(i) => i + 1,
-        Node::Eml(l, r) => {
-            let left = num_vars(nodes, l);
-            let right = num_vars(nodes, r);
-            left.max(right)
+// A tree: its root is a node of a list, in which all nodes up to it passed their tests.
+#[derive(Clone, Copy)]
+pub struct EmlTree<'a> {
+    pub nodes: &'a [u8],
+    pub root: usize,
+    pub ghost valid: { Valid nodes.now (root + 1) },
+}
+
+#[tactic(auto, using(crate::specs::NodeLaws::node_trees, crate::specs::NodeLaws::valid_trees))]
+impl<'a> EmlTree<'a> {
+    ghost use Rattle.tree.specs.Views.{the_tree, node_tree, Bounded};
+
+    // What its root says, the children as trees.
+    pub fn node(self) -> Node<EmlTree<'a>>
+        ensures tree { node_tree result ≡ the_tree self.entry }
+        ensures bounds { Bounded self.entry.root result }
+    {
+        let nodes = self.nodes;
+        match node_in(nodes, self.root) {
+            Node::One => Node::One,
+            Node::Const(v) => Node::Const(v),
+            Node::Var(i) => Node::Var(i),
+            Node::Eml(l, r) => Node::Eml(EmlTree { nodes, root: l }, EmlTree { nodes, root: r }),
+        }
+    }
+
+    // The number of its variables.
+    #[tactic(auto, unfolding(crate::specs::Tree::tree_vars))]
+    pub fn num_vars(self) -> usize
+        ensures { result ≡ tree_vars (the_tree self.entry) }
+    {
+        match self.node() {
+            Node::One | Node::Const(_) => 0,
+            Node::Var(i) => i + 1,
+            Node::Eml(left, right) => left.num_vars().max(right.num_vars()),
         }
     }
 }
@@ -269,7 +290,7 @@ fn measure_operands(
     y: usize,
 ) -> Result<(Extent, Extent), Refusal>
     ensures refusal { refusal_of result ≡ operands_refusal nodes.now count x y }
-    ensures value { IfOk result (λ o. Measured (the_tree nodes x) o.0 × Measured (the_tree nodes y) o.1) }
+    ensures value { IfOk result (λ o. Measured (tree_at nodes.now x) o.0 × Measured (tree_at nodes.now y) o.1) }
 {
     let mut extents = [BLANK; 1024];
     test_nodes(nodes, count, &mut extents)?;

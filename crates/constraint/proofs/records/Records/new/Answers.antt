@@ -68,12 +68,11 @@ returns-then-height-ne1-clause-refusal c =
 pub invariant_of-result : goal.invariant_of-result
 invariant_of-result c = record {
   ready = record {
-    valid = c.requires.nodes.0;
+    valid = c.requires.nodes;
     few = c.requires.few;
     there = omega arith;
     accepted = one_stays _ _ _ _ _ c.loop-k.invariant.stacked (le_antisymm c.loop-k.auto.k-end c.loop-k-test.false) (sym c.height-2.ensures ∙ c.if-height-ne1.false);
     room = c.loop-k.invariant.room;
     begins = λ j h. c.loop-k.invariant.begun j (omega arith);
   };
-  no_larger = c.requires.nodes.1;
 }
