@@ -6,7 +6,7 @@ ghost use Rattle.std.specs.Prelude.{◌≡◌, ◌≤◌};
 use super::Verdict;
 use constraint::Records;
 use interval::{Domain, Interval, Point};
-use narrow::{Mode, PropResult, narrow_boxes};
+use narrow::{Mode, PropResult, Propagator};
 use point::helpers::check_constraint;
 use settings::Settings;
 
@@ -80,13 +80,11 @@ impl<'a> Question<'a> {
     fn is_refuted(&self) -> bool
         ensures { result ≡ refutes self.now.settings (the_constraint self.now.records) (box_of self.now) }
     {
-        let (result, _) = narrow_boxes(
-            &self.records,
-            self.records.root(),
-            self.settings,
-            Mode::Negated,
-            self.boxes(),
-        );
+        let propagator = Propagator {
+            settings: self.settings,
+            mode: Mode::Negated,
+        };
+        let (result, _) = propagator.narrow_boxes(self.records.constraint(), self.boxes());
         result == PropResult::Conflict
     }
 

@@ -1,5 +1,5 @@
 // `propagate` on the caller's own list of intervals (document 01, "Forms of the Rust to recast"): the tests, and then the narrowing, in place.
-#![tactic(auto)]
+#![tactic(auto, using(narrow::specs::GivenLaws::refusals), unfolding(crate::specs::Lent::propagate_lent))]
 
 ghost use Rattle.std.specs.Prelude.{◌≡◌};
 ghost use Rattle.settings.specs.Settings.{usual};
@@ -8,8 +8,8 @@ ghost use Rattle.record.specs.Refused.{numbered};
 ghost use Rattle.record.specs.Views.{old, final};
 ghost use Rattle.lent.specs.Lent.{propagate_lent};
 
-use interval::Interval;
-use narrow::{Mode, PropResult};
+use interval::{Domain, Interval};
+use narrow::{Mode, PropResult, Propagator};
 use record::Refusal;
 
 // The tests in document 01's order, then `propagate` by the one constraint that the records leave. A refusal alters nothing.
@@ -21,10 +21,12 @@ pub fn propagate(
     ensures { (numbered result leaving final boxes) ≡ propagate_lent usual nodes.now constraints.now (old boxes) }
 {
     let records = file::read_given(nodes, constraints)?;
-    if (16 < boxes.len()) || !interval::all_sound(boxes) {
-        return Err(Refusal::Boxes);
-    }
-    let settings = settings::usual();
-    let result = narrow::propagate(&records, records.root(), settings, Mode::Written, boxes);
+    let mut domain = Domain::of_sound(boxes)?;
+    let propagator = Propagator {
+        settings: settings::usual(),
+        mode: Mode::Written,
+    };
+    let result = propagator.propagate(records.constraint(), &mut domain);
+    boxes.copy_from_slice(domain.as_slice());
     Ok(result)
 }

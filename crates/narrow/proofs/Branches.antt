@@ -1,14 +1,14 @@
 -- The loops over the boxes of an Or's branches, and how the answers of steps join. Assumes nothing.
-use Prim.Native.Nat.{ℕ, zero, suc, ◌+◌, ◌<◌, ◌≤◌, min}
-use mathlib.Core.Path.{◌≡◌, refl, sym, ap₂, ◌∙◌}
+use Prim.Native.Nat.{ℕ, ◌+◌, ◌<◌, ◌≤◌, min}
+use mathlib.Core.Path.{◌≡◌, refl, sym, ◌∙◌}
 use mathlib.Core.List.{List, [], ◌∷◌, ◌++◌}
 use Rattle.std.proofs.Common.{◌⊎◌, inl, inr}
 use native.Mathlib.Omega.{arith}
-use native.Mathlib.Nat.{le_of_suc-le-suc, not-suc-le-zero}
 use lib.ListN.{length, get_or, set, take, drop}
-use Rattle.std.proofs.Common.{append_assoc, add-one, drop-cons, length-take, get_or-take}
-use Rattle.std.proofs.Math.Seq.{take-suc, take-suc-set, drop-set-lt}
-use Rattle.std.proofs.lemmas.List.{take-append-drop, drop_all}
+use Rattle.std.proofs.Common.{append_assoc, length-set}
+use Rattle.std.proofs.Math.Seq.{drop-set-lt}
+use Rattle.std.proofs.lemmas.List.{take-append-drop, drop_all, take_more_same, take_more_set, drop_more, take-set, get_or-set_same}
+use Rattle.std.proofs.lemmas.Simd.{get_or-zip2}
 use Rattle.settings.specs.declared.Settings.{Settings}
 use Rattle.interval.specs.declared.Interval.{Interval}
 use Rattle.interval.specs.Interval.{hull}
@@ -36,28 +36,19 @@ worse_assoc Changed Stable w = refl
 worse_assoc Stable v w = refl
 
 -- ---- the hull of each pair
-pub hulls_at : (A B : List Interval) (i : ℕ) (d : Interval) → i < length A → i < length B → get_or (hulls A B) i d ≡ hull (get_or A i d) (get_or B i d)
-unfolding hulls
-hulls_at [] B i d g h = absurd (not-suc-le-zero g)
-hulls_at (a ∷ A) [] i d g h = absurd (not-suc-le-zero h)
-hulls_at (a ∷ A) (b ∷ B) zero d g h = refl
-hulls_at (a ∷ A) (b ∷ B) (suc i) d g h = hulls_at A B i d (le_of_suc-le-suc g) (le_of_suc-le-suc h)
-
 pub hulls_length : (A B : List Interval) → length (hulls A B) ≡ min (length A) (length B)
 unfolding hulls
 hulls_length [] B = omega arith
 hulls_length (a ∷ A) [] = omega arith
 hulls_length (a ∷ A) (b ∷ B) = omega (arith, hulls_length A B)
 
--- one more of them is written, over the boxes of one of 16 places
-pub hull_next : (A B X : List Interval) (n m i : ℕ) (d : Interval) → length X ≡ 16 → length A ≡ 16 → length B ≡ 16 → n ≤ 16 → m ≤ 16 → i < min n m → {v : Interval} → v ≡ hull (get_or A i d) (get_or B i d)
-    → take i X ≡ take i (hulls (take n A) (take m B)) → take (i + 1) (set X i v) ≡ take (i + 1) (hulls (take n A) (take m B))
-hull_next A B X n m i d x a b f g h {v} e p =
-    let all = hulls (take n A) (take m B) in
-    let l : length (take n A) ≡ n = grind (arith, length-take {A = Interval}) in
-    let r : length (take m B) ≡ m = grind (arith, length-take {A = Interval}) in
-    let k : get_or all i d ≡ v = rw (hulls_at (take n A) (take m B) i d (omega arith) (omega arith), get_or-take n A i d (omega arith), get_or-take m B i d (omega arith)) (sym e) in
-    rw add-one (take-suc-set X i v (omega arith) ∙ ap₂ (λ (y : List Interval) (z : Interval). y ++ z ∷ []) p (sym k) ∙ sym (take-suc all i d (omega (arith, hulls_length (take n A) (take m B)))))
+-- one more of them is written
+pub hull_next : (A B X : List Interval) (i : ℕ) (d : Interval) → i < length A → i < length B → i < length X → {v : Interval} → v ≡ hull (get_or A i d) (get_or B i d)
+    → take i X ≡ take i (hulls A B) → take (i + 1) (set X i v) ≡ take (i + 1) (hulls A B)
+unfolding hulls
+hull_next A B X i d f g h {v} e p =
+    take_more_same (set X i v) (hulls A B) i d (simp length-set h) (omega (arith, hulls_length A B)) (take-set X i v ∙ p)
+    (get_or-set_same X i v d h ∙ e ∙ sym (get_or-zip2 hull A B i d d d f g))
 
 -- ---- the hull is adopted: what is left of it, joined to what was done, is the whole
 module _ (σ : Settings) where
@@ -81,12 +72,9 @@ module _ (σ : Settings) where
     unfolding adopt
     adopt_next d g h {w} {u} {v} e j =
         let rest = left H B (i + 1) in
-        let a : drop i H ≡ get_or H i d ∷ drop (i + 1) H = rw add-one (drop-cons H i d g) in
-        let b : drop i B ≡ get_or B i d ∷ drop (i + 1) B = rw add-one (drop-cons B i d h) in
-        let all : left H B i ≡ (worse_of w rest.answer leaving (v ∷ rest.places)) = rw (a, b, ← e) refl in
+        let all : left H B i ≡ (worse_of w rest.answer leaving (v ∷ rest.places)) = rw (drop_more H i d g, drop_more B i d h, ← e) refl in
         let past : drop (i + 1) (set B i v) ≡ drop (i + 1) B = drop-set-lt (i + 1) B i v (omega arith) in
-        let done : take (i + 1) (set B i v) ≡ take i B ++ v ∷ [] = rw add-one (take-suc-set B i v h) in
-        record { whole = rw (j, past, done, worse_assoc, append_assoc) (rw all at p.whole) }
+        record { whole = rw (j, past, take_more_set B i v h, worse_assoc, append_assoc) (rw all at p.whole) }
 
     all_done : (length H ≤ i) ⊎ (length B ≤ i) → left H B i ≡ (Stable leaving drop i B)
     unfolding adopt
@@ -95,3 +83,5 @@ module _ (σ : Settings) where
 
     pub adopt_ends : (length H ≤ i) ⊎ (length B ≤ i) → (r leaving B) ≡ adopt σ H B₀
     adopt_ends h = rw (all_done h, worse_stable, take-append-drop) at p.whole
+
+pub ruleset adopting = (adopt_begins, adopt_ends)

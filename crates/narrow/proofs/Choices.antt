@@ -5,13 +5,17 @@ use Rattle.number.specs.Notation.{when◌then◌else◌}
 use Rattle.number.specs.Literals.{zero_is, one_is, infinite, minus_infinite}
 use Rattle.std.specs.Float.Ieee.{round, of_bits}
 use Rattle.std.proofs.Math.Seq.{set_out}
-use Rattle.tree.specs.NodeLaws.{tree_one, tree_const, tree_var, tree_is, record_there, at_left, at_right}
+use Rattle.settings.specs.declared.Settings.{Settings}
+use Rattle.interval.specs.Interval.{is_empty}
+use Rattle.tree.specs.Tree.{Tree}
+use Rattle.record.specs.Leaving.{◌leaving◌}
+use Rattle.narrow.specs.declared.PropResult.TheVariants.{Conflict}
 use Rattle.number.specs.Notation.{bits}
 use Rattle.std.specs.Prelude.{ℕ, ◌<◌, List, length, get_or}
 use Rattle.std.proofs.lemmas.List.{get_or_default}
 use Rattle.interval.specs.declared.Interval.{Interval}
 use Rattle.interval.specs.Boxes.{missing}
-use Rattle.narrow.specs.Narrowing.{eps}
+use Rattle.narrow.specs.Narrowing.{eps, backward}
 
 pub taken : {A : Type 0} (b : Bool) (x y : A) → b ≡ true → (when b then x else y) ≡ x
 unfolding when◌then◌else◌
@@ -34,4 +38,10 @@ box_is b i d h = get_or_default b i d missing h
 
 pub ruleset choices = (taken, passed, zero_is, one_is, infinite, minus_infinite, eps_is, set_out, box_is)
 
-pub ruleset at_node = (choices, tree_one, tree_const, tree_var, tree_is, record_there, at_left, at_right)
+-- nothing lies in an empty interval
+pub back_empty : (σ : Settings) (t : Tree) (out : Interval) (b : List Interval) → is_empty out ≡ true → backward σ t out b ≡ (Conflict leaving b)
+unfolding backward when◌then◌else◌
+back_empty σ Tree.One out b e = simp e
+back_empty σ (Tree.Const v) out b e = simp e
+back_empty σ (Tree.Var i) out b e = simp e
+back_empty σ (Tree.Eml l r) out b e = simp e

@@ -20,7 +20,9 @@ use Rattle.record.specs.Leaving.{◌leaving◌}
 use Rattle.constraint.specs.Constraint.{Constraint}
 use Rattle.narrow.specs.declared.PropResult.{PropResult}
 use Rattle.narrow.specs.Narrowing.{propagate}
+use Rattle.record.specs.RefusalLaws.{none_unless}
 use Rattle.narrow.specs.Given.{ends, answered}
+use Rattle.narrow.specs.GivenLaws.{refusals}
 
 -- as many are written as there are
 written : (old new : List Float) (n : ℕ) → length old ≡ n → length new ≡ n → paste old 0 new n ≡ new
@@ -34,3 +36,5 @@ module _ (lo hi : List Float) (t : are_boxes lo hi ≡ true) where
       → n ≡ length lo → length is ≡ n → lo' ≡ paste lo 0 (lows is) n → hi' ≡ paste hi 0 (highs is) n → (Ok w leaving (lo', hi')) ≡ answered ends (propagate usual c (intervals lo hi))
   answers c {w = w} {is = is} {n = n} s h e l p q =
       rw (p, q, written lo (lows is) n (sym e) (lows_length is ∙ l), written hi (highs is) n (paired ∙ sym e) (highs_length is ∙ l), ← s, ← h) refl
+
+pub ruleset given = (refusals, none_unless, paired)

@@ -1,6 +1,5 @@
 -- Laws that several proofs cite.
 mod Choices
-mod Atoms
 mod Branches
 mod Passes
 mod Rounds

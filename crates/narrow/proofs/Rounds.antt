@@ -46,3 +46,5 @@ module _ (σ : Settings) (w : Mode) (d : Constraint) (b₀ : List Interval) wher
       pub changes : is_changed r ≡ true → Going b' u (i + 1)
       unfolding again when◌then◌else◌
       changes t = record { whole = rw (j, worse_assoc) (rw t at next) }
+
+pub ruleset ends = (begins, no_more)

@@ -11,17 +11,10 @@ use Rattle.interval.specs.Interval.{is_empty, nothing, exp, has_ln, ln, minus, i
 use Rattle.record.specs.Leaving.{◌leaving◌}
 use Rattle.tree.specs.Tree.{Tree, Eml}
 use Rattle.constraint.specs.declared.Relation.{Relation}
-use Rattle.narrow.specs.declared.forward.Pair.{Pair}
 use Rattle.narrow.specs.declared.forward.Children.{Children}
 use Rattle.narrow.specs.declared.PropResult.{PropResult}
 use Rattle.narrow.specs.declared.PropResult.TheVariants.{Stable, Conflict}
 use Rattle.narrow.specs.Narrowing.{Narrowed, Demand, on_ok, eml_interval, forward, eval_interval, children, ask, demand, ask_both, backward, fails, target_of, nudge_tree, aim, narrow_to, narrow_atom}
-
--- two intervals, where both are known
-abbrev pub both_of : Option Interval → Option Interval → Option Pair
-both_of (Some l) (Some r) = Some (record { left = l; right = r })
-both_of (Some l) None = None
-both_of None r = None
 
 unfoldable pub common_of : Interval → Interval → Result Interval PropResult
 common_of i j = let both = intersect i j in when is_empty both then Err Conflict else Ok both

@@ -1,6 +1,7 @@
 -- The ways out of a call on records and boxes that are given: what a function that tests them cites. Assumes nothing.
 use Rattle.std.specs.Prelude.{ℕ, ◌≡◌, refl, Bool, true, false, List, [], Err}
 use Rattle.std.proofs.Common.{sym, ap}
+use Rattle.std.proofs.lemmas.Result.{err_from_is_err_and}
 use Rattle.record.specs.Leaving.{◌leaving◌}
 use Rattle.record.specs.Refusal.{◌unless◌}
 use Rattle.record.specs.RefusalLaws.{never_none}
@@ -25,3 +26,5 @@ module _ {B : Type 0} (nodes constraints : List ℕ) (b : B) (next : Constraint 
     pub boxes_taken : {t : Bool} {x : Given B} → t ≡ true → x ≡ next c → x ≡ tested (read_given nodes constraints) t b next
     unfolding tested
     boxes_taken h k = rw (e, h) k
+
+pub ruleset refusals = (err_from_is_err_and, records_refused, boxes_refused)

@@ -1,5 +1,5 @@
 -- Narrowing by a normal form without building it: the recursion that the code makes, and that it is the definition's. Assumes nothing.
-use Rattle.std.specs.Prelude.{◌≡◌, refl, List, Bool, true, false, not, Option, None}
+use Rattle.std.specs.Prelude.{◌≡◌, refl, List, Option, None}
 use Rattle.std.proofs.Common.{ap, ◌∙◌}
 use Rattle.settings.specs.declared.Settings.{Settings}
 use Rattle.interval.specs.declared.Interval.{Interval}
@@ -19,10 +19,14 @@ under_not Written = Normal
 under_not Normal = Negated
 under_not Negated = Normal
 
+-- x, and of a negation y
+abbrev pub unless_negated : {A : Type 0} → Mode → A → A → A
+unless_negated Written x y = x
+unless_negated Normal x y = x
+unless_negated Negated x y = y
+
 abbrev pub relation_in : Mode → Relation → Relation
-relation_in Written rel = rel
-relation_in Normal rel = rel
-relation_in Negated rel = opposite_of rel
+relation_in w rel = unless_negated w rel (opposite_of rel)
 
 -- the constraint that is narrowed by
 abbrev pub in_mode : Mode → Constraint → Constraint
@@ -30,23 +34,14 @@ in_mode Written c = c
 in_mode Normal c = to_nnf c
 in_mode Negated c = to_nnf (Not c)
 
-abbrev pub is_negated : Mode → Bool
-is_negated Written = false
-is_negated Normal = false
-is_negated Negated = true
-
 -- ---- a round
--- one of several is to hold, or all
-abbrev pub one_or_all : Bool → Narrowed → Narrowed → Narrowed
-one_or_all true one all = one
-one_or_all false one all = all
-
+-- a negated And is an Or, and a negated Or an And
 unfoldable mutual
   pub pass : Settings → Mode → Constraint → List Interval → Narrowed
   pass σ w (Atom rel t) b = narrow_atom σ (relation_in w rel) t b
   pass σ w (Not c) b = pass σ (under_not w) c b
-  pass σ w (And cs) b = one_or_all (is_negated w) (adopt_survivors σ (pass_any σ w cs b None) b) (pass_all σ w cs b)
-  pass σ w (Or cs) b = one_or_all (not (is_negated w)) (adopt_survivors σ (pass_any σ w cs b None) b) (pass_all σ w cs b)
+  pass σ w (And cs) b = unless_negated w (pass_all σ w cs b) (adopt_survivors σ (pass_any σ w cs b None) b)
+  pass σ w (Or cs) b = unless_negated w (adopt_survivors σ (pass_any σ w cs b None) b) (pass_all σ w cs b)
   pass σ w (ForAll v lo hi c) b = Stable leaving b
   pass σ w (Exists v lo hi c) b = Stable leaving b
 
@@ -57,9 +52,6 @@ unfoldable mutual
   pub pass_any : Settings → Mode → Constraints → List Interval → Option (List Interval) → Option (List Interval)
   pass_any σ w end b so_far = so_far
   pass_any σ w (c ⨾ cs) b so_far = pass_any σ w cs b (survive so_far (pass σ w c b))
-
-abbrev pub pass_several : Bool → Settings → Mode → Constraints → List Interval → Narrowed
-pass_several one σ w cs b = one_or_all one (adopt_survivors σ (pass_any σ w cs b None) b) (pass_all σ w cs b)
 
 -- ---- the same as the definition's
 -- one step of And, by two narrowings that are equal

@@ -2,6 +2,7 @@
 use Rattle.std.specs.Prelude.{ℕ, zero, suc, ◌^◌, Bool, true, false, not, ◌&&◌, ◌||◌, List, [], ◌∷◌, ltb, length, get_or, set, Float, Option, Some, None, Result, Ok, Err}
 use Rattle.std.specs.Float.{binary64}
 use Rattle.std.specs.Float.Ieee.{neg, eq}
+use Rattle.std.specs.Simd.Lanes.{zip2}
 use Rattle.number.specs.Notation.{when◌then◌else◌, ◌≺◌, ◌≼◌, whole, decimal}
 use Rattle.number.specs.Sign.{abs_of}
 use Rattle.number.specs.MaxMin.{max_of, min_of}
@@ -168,11 +169,9 @@ unfoldable pub narrow_atom : Settings → Relation → Tree → List Interval �
 narrow_atom σ rel t b = narrow_to σ rel t (eval_interval b t) b
 
 -- ---- one round
--- Or: the hull of the survivors so far, in order
+-- Or: the hull of the survivors so far, in order; of two lists of boxes, that of each pair
 unfoldable pub hulls : List Interval → List Interval → List Interval
-hulls [] is = []
-hulls (h ∷ hs) [] = []
-hulls (h ∷ hs) (i ∷ is) = hull h i ∷ hulls hs is
+hulls hs is = zip2 hull hs is
 
 unfoldable pub hull_with : Option (List Interval) → List Interval → List Interval
 hull_with None b = b

@@ -1,8 +1,7 @@
 // One atom: what its tree is to lie in.
 #![tactic(auto, using(crate::proofs::Choices::choices), unfolding(crate::specs::Narrowing::fails, crate::specs::Narrowing::target_of, crate::specs::Narrowing::nudge_var, crate::specs::Narrowing::narrow_atom, crate::specs::Narrowing::narrow_to, crate::specs::Narrowing::aim, crate::specs::Aiming::aimed, crate::specs::Aiming::aimed_to, crate::specs::Aiming::aim_at))]
 
-ghost use Rattle.std.specs.Prelude.{◌≡◌, ◌+◌};
-ghost use Rattle.tree.specs.Nodes.{Valid};
+ghost use Rattle.std.specs.Prelude.{◌≡◌};
 ghost use Rattle.tree.specs.Views.{the_tree};
 ghost use Rattle.record.specs.Leaving.{◌leaving◌};
 ghost use Rattle.record.specs.Views.{old, final};
@@ -15,7 +14,7 @@ use crate::forward::{Children, Pair, eml_children, eval_interval};
 use constraint::Relation;
 use interval::Interval;
 use settings::Settings;
-use tree::Node;
+use tree::{EmlTree, Node};
 
 // four times the f64 epsilon
 const EPS: f64 = 8.881784197001252e-16;
@@ -67,12 +66,11 @@ fn nudge_var(i: usize, boxes: &mut [Interval]) -> PropResult
     PropResult::Stable
 }
 
-#[tactic(auto, using(crate::proofs::Choices::at_node), unfolding(crate::specs::Narrowing::nudge_tree))]
-fn nudge(nodes: &[u8], k: usize, boxes: &mut [Interval]) -> PropResult
-    requires { Valid nodes.now (k + 1) }
-    ensures { (result leaving final boxes) ≡ nudge_tree (the_tree nodes k) (old boxes) }
+#[tactic(auto, using(crate::proofs::Choices::choices), unfolding(crate::specs::Narrowing::nudge_tree))]
+fn nudge(tree: EmlTree, boxes: &mut [Interval]) -> PropResult
+    ensures { (result leaving final boxes) ≡ nudge_tree (the_tree tree.entry) (old boxes) }
 {
-    let Node::Var(i) = tree::node_in(nodes, k) else {
+    let Node::Var(i) = tree.node() else {
         return PropResult::Stable;
     };
     nudge_var(i, boxes)
@@ -93,57 +91,53 @@ fn aim(settings: Settings, relation: Relation, c: Children) -> Result<Pair, Prop
     ask(out, c)
 }
 
+// From the children. A function of its own, since the law that an Eml may be aimed at is said of what this gives.
 fn aim_at(
-    nodes: &[u8],
-    a: usize,
-    b: usize,
+    left: EmlTree,
+    right: EmlTree,
     settings: Settings,
     relation: Relation,
     boxes: &[Interval],
 ) -> Result<Pair, PropResult>
-    requires { Valid nodes.now (a + 1) × Valid nodes.now (b + 1) }
-    ensures { result ≡ aim_at settings relation (eval_interval boxes.now (the_tree nodes a)) (eval_interval boxes.now (the_tree nodes b)) }
+    ensures { result ≡ aim_at settings relation (eval_interval boxes.now (the_tree left.entry)) (eval_interval boxes.now (the_tree right.entry)) }
 {
-    aim(settings, relation, eml_children(nodes, a, b, boxes)?)
+    aim(settings, relation, eml_children(left, right, boxes)?)
 }
 
-// Node k's tree is to compare with zero as the relation says.
+// The tree is to compare with zero as the relation says.
 fn narrow_other(
-    nodes: &[u8],
-    k: usize,
+    tree: EmlTree,
     settings: Settings,
     relation: Relation,
     boxes: &mut [Interval],
 ) -> PropResult
-    requires { Valid nodes.now (k + 1) }
-    ensures { (result leaving final boxes) ≡ narrow_atom settings relation (the_tree nodes k) (old boxes) }
+    ensures { (result leaving final boxes) ≡ narrow_atom settings relation (the_tree tree.entry) (old boxes) }
 {
-    let Some(v) = eval_interval(nodes, k, boxes) else {
+    let Some(v) = eval_interval(tree, boxes) else {
         return PropResult::Stable;
     };
     if v.is_empty() || fails(settings, relation, v) {
         return PropResult::Conflict;
     }
     match target_of(relation, v) {
-        Some(out) => backward_propagate(nodes, k, settings, out, boxes),
-        None => nudge(nodes, k, boxes),
+        Some(out) => backward_propagate(tree, settings, out, boxes),
+        None => nudge(tree, boxes),
     }
 }
 
 // The same, with an Eml's children computed once.
+#[tactic(auto, using(crate::specs::Aiming::eml_aimed))]
 pub fn narrow_atom(
-    nodes: &[u8],
-    k: usize,
+    tree: EmlTree,
     settings: Settings,
     relation: Relation,
     boxes: &mut [Interval],
 ) -> PropResult
-    requires { Valid nodes.now (k + 1) }
-    ensures { (result leaving final boxes) ≡ narrow_atom settings relation (the_tree nodes k) (old boxes) }
+    ensures { (result leaving final boxes) ≡ narrow_atom settings relation (the_tree tree.entry) (old boxes) }
 {
-    let Node::Eml(a, b) = tree::node_in(nodes, k) else {
-        return narrow_other(nodes, k, settings, relation, boxes);
+    let Node::Eml(left, right) = tree.node() else {
+        return narrow_other(tree, settings, relation, boxes);
     };
-    let demand = aim_at(nodes, a, b, settings, relation, boxes);
-    backward_both(nodes, a, b, settings, demand, boxes)
+    let demand = aim_at(left, right, settings, relation, boxes);
+    backward_both(left, right, settings, demand, boxes)
 }

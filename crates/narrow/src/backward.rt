@@ -1,19 +1,18 @@
 // Backward: what a node's value is to lie in is passed on to its children, down to the variables.
-#![tactic(auto, using(crate::proofs::Choices::at_node, crate::proofs::Atoms::back_empty), unfolding(crate::specs::Narrowing::left_of, crate::specs::Narrowing::ask, crate::specs::Narrowing::fixed_at, crate::specs::Narrowing::narrow_var, crate::specs::Narrowing::demand, crate::specs::Narrowing::backward, crate::specs::Narrowing::ask_both, crate::specs::Aiming::common_of))]
+#![tactic(auto, using(crate::proofs::Choices::choices, crate::proofs::Choices::back_empty), unfolding(crate::specs::Narrowing::left_of, crate::specs::Narrowing::fixed_at, crate::specs::Narrowing::narrow_var, crate::specs::Narrowing::demand, crate::specs::Narrowing::backward, crate::specs::Narrowing::ask_both, crate::specs::Aiming::common_of))]
 
-ghost use Rattle.std.specs.Prelude.{◌≡◌, ◌+◌};
-ghost use Rattle.tree.specs.Nodes.{Valid};
+ghost use Rattle.std.specs.Prelude.{◌≡◌};
 ghost use Rattle.tree.specs.Views.{the_tree};
 ghost use Rattle.record.specs.Leaving.{◌leaving◌};
 ghost use Rattle.record.specs.Views.{old, final};
-ghost use Rattle.narrow.specs.Narrowing.{eval_interval, left_of, ask as ask_of, demand as demand_of, ask_both, fixed_at, narrow_var, backward};
+ghost use Rattle.narrow.specs.Narrowing.{left_of, ask as ask_of, ask_both, fixed_at, narrow_var, backward};
 ghost use Rattle.narrow.specs.Aiming.{common_of};
 
 use crate::PropResult;
 use crate::forward::{Children, Pair, eml_children};
 use interval::Interval;
 use settings::Settings;
-use tree::Node;
+use tree::{EmlTree, Node};
 
 // The common part of two intervals, or Conflict.
 fn common(i: Interval, j: Interval) -> Result<Interval, PropResult>
@@ -37,6 +36,7 @@ fn left_of(l: Interval, range: Interval) -> Interval
 }
 
 // What an Eml that is to lie in out asks of its children, or answers at once: out = exp(left) - ln(right).
+#[tactic(auto, using(crate::proofs::Choices::choices), unfolding(crate::specs::Narrowing::ask, crate::specs::Aiming::common_of))]
 pub fn ask(out: Interval, c: Children) -> Result<Pair, PropResult>
     ensures { result ≡ ask_of out c }
 {
@@ -78,63 +78,45 @@ fn narrow_var(i: usize, settings: Settings, out: Interval, boxes: &mut [Interval
     PropResult::Changed
 }
 
-// What an Eml of nodes a and b, which is to lie in out, asks of them.
-fn demand_of(
-    nodes: &[u8],
-    a: usize,
-    b: usize,
-    out: Interval,
-    boxes: &[Interval],
-) -> Result<Pair, PropResult>
-    requires { Valid nodes.now (a + 1) × Valid nodes.now (b + 1) }
-    ensures { result ≡ demand_of (eval_interval boxes.now (the_tree nodes a)) (eval_interval boxes.now (the_tree nodes b)) out }
-{
-    ask(out, eml_children(nodes, a, b, boxes)?)
-}
-
-// Node k's tree is to lie in out.
+// The tree is to lie in out.
 #[cycle(backward)]
 pub fn backward_propagate(
-    nodes: &[u8],
-    k: usize,
+    tree: EmlTree,
     settings: Settings,
     out: Interval,
     boxes: &mut [Interval],
 ) -> PropResult
-    requires { Valid nodes.now (k + 1) }
-    ensures { (result leaving final boxes) ≡ backward settings (the_tree nodes k) out (old boxes) }
+    ensures { (result leaving final boxes) ≡ backward settings (the_tree tree.entry) out (old boxes) }
 {
     if out.is_empty() {
         return PropResult::Conflict;
     }
-    match tree::node_in(nodes, k) {
+    match tree.node() {
         Node::One => fixed_at(1.0, out),
         Node::Const(v) => fixed_at(v, out),
         Node::Var(i) => narrow_var(i, settings, out, boxes),
-        Node::Eml(a, b) => {
-            let demand = demand_of(nodes, a, b, out, boxes);
-            backward_both(nodes, a, b, settings, demand, boxes)
+        Node::Eml(left, right) => {
+            let demand = eml_children(left, right, boxes).and_then(|c| ask(out, c));
+            backward_both(left, right, settings, demand, boxes)
         }
     }
 }
 
-// What an Eml of nodes a and b asks of them. Right is asked what was computed before left wrote, also after left's Conflict.
+// What an Eml of two trees asks of them. Right is asked what was computed before left wrote, also after left's Conflict.
 #[cycle(backward)]
 pub fn backward_both(
-    nodes: &[u8],
-    a: usize,
-    b: usize,
+    left: EmlTree,
+    right: EmlTree,
     settings: Settings,
     demand: Result<Pair, PropResult>,
     boxes: &mut [Interval],
 ) -> PropResult
-    requires { Valid nodes.now (a + 1) × Valid nodes.now (b + 1) }
-    ensures { (result leaving final boxes) ≡ ask_both demand (backward settings (the_tree nodes a)) (backward settings (the_tree nodes b)) (old boxes) }
+    ensures { (result leaving final boxes) ≡ ask_both demand (backward settings (the_tree left.entry)) (backward settings (the_tree right.entry)) (old boxes) }
 {
     match demand {
         Ok(asked) => {
-            let first = backward_propagate(nodes, a, settings, asked.left, boxes);
-            let second = backward_propagate(nodes, b, settings, asked.right, boxes);
+            let first = backward_propagate(left, settings, asked.left, boxes);
+            let second = backward_propagate(right, settings, asked.right, boxes);
             first.max(second)
         }
         Err(result) => result,

@@ -1,15 +1,13 @@
 // Forward: the interval of a tree's values, where real arithmetic can tell.
-#![tactic(auto, using(crate::proofs::Choices::at_node), unfolding(crate::specs::Narrowing::eval_interval, crate::specs::Narrowing::forward, crate::specs::Narrowing::children))]
+#![tactic(auto, using(crate::proofs::Choices::choices), unfolding(crate::specs::Narrowing::eval_interval, crate::specs::Narrowing::forward, crate::specs::Narrowing::children))]
 
-ghost use Rattle.std.specs.Prelude.{◌≡◌, ◌+◌};
-ghost use Rattle.tree.specs.Nodes.{Valid};
+ghost use Rattle.std.specs.Prelude.{◌≡◌};
 ghost use Rattle.tree.specs.Views.{the_tree};
 ghost use Rattle.narrow.specs.Narrowing.{eml_interval, eval_interval, children};
-ghost use Rattle.narrow.specs.Aiming.{both_of};
 
 use crate::PropResult;
 use interval::Interval;
-use tree::Node;
+use tree::{EmlTree, Node};
 
 // An interval for each child of an Eml.
 #[derive(Clone, Copy)]
@@ -32,32 +30,20 @@ fn eml_interval(l: Interval, r: Interval) -> Option<Interval>
     None
 }
 
-// The interval of the values of node k's tree, where real arithmetic can tell.
-#[cycle(eval)]
-pub fn eval_interval(nodes: &[u8], k: usize, boxes: &[Interval]) -> Option<Interval>
-    requires { Valid nodes.now (k + 1) }
-    ensures { result ≡ eval_interval boxes.now (the_tree nodes k) }
+// The interval of the tree's values, where real arithmetic can tell.
+pub fn eval_interval(tree: EmlTree, boxes: &[Interval]) -> Option<Interval>
+    ensures { result ≡ eval_interval boxes.now (the_tree tree.entry) }
 {
-    match tree::node_in(nodes, k) {
+    match tree.node() {
         Node::One => Some(Interval::point(1.0)),
         Node::Const(v) => Some(Interval::point(v)),
         Node::Var(i) => Some(interval::box_at(boxes, i)),
-        Node::Eml(a, b) => {
-            let p = eval_both(nodes, a, b, boxes)?;
-            eml_interval(p.left, p.right)
+        Node::Eml(left, right) => {
+            let l = eval_interval(left, boxes)?;
+            let r = eval_interval(right, boxes)?;
+            eml_interval(l, r)
         }
     }
-}
-
-// Of two nodes' trees.
-#[cycle(eval)]
-fn eval_both(nodes: &[u8], a: usize, b: usize, boxes: &[Interval]) -> Option<Pair>
-    requires { Valid nodes.now (a + 1) × Valid nodes.now (b + 1) }
-    ensures { result ≡ both_of (eval_interval boxes.now (the_tree nodes a)) (eval_interval boxes.now (the_tree nodes b)) }
-{
-    let left = eval_interval(nodes, a, boxes)?;
-    let right = eval_interval(nodes, b, boxes)?;
-    Some(Pair { left, right })
 }
 
 // An Eml's children, and what is computed of them forward.
@@ -69,17 +55,16 @@ pub struct Children {
     pub ln_right: Interval,
 }
 
-// Those of an Eml of nodes a and b, or what it answers at once.
+// Those of an Eml of two trees, or what it answers at once.
 pub fn eml_children(
-    nodes: &[u8],
-    a: usize,
-    b: usize,
+    left: EmlTree,
+    right: EmlTree,
     boxes: &[Interval],
 ) -> Result<Children, PropResult>
-    requires { Valid nodes.now (a + 1) × Valid nodes.now (b + 1) }
-    ensures { result ≡ children (eval_interval boxes.now (the_tree nodes a)) (eval_interval boxes.now (the_tree nodes b)) }
+    ensures { result ≡ children (eval_interval boxes.now (the_tree left.entry)) (eval_interval boxes.now (the_tree right.entry)) }
 {
-    let Pair { left, right } = eval_both(nodes, a, b, boxes).ok_or(PropResult::Stable)?;
+    let left = eval_interval(left, boxes).ok_or(PropResult::Stable)?;
+    let right = eval_interval(right, boxes).ok_or(PropResult::Stable)?;
     if left.is_empty() | right.is_empty() {
         return Err(PropResult::Conflict);
     }

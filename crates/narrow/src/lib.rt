@@ -7,11 +7,11 @@ mod backward; // from a node down to the variables
 mod forward; // the interval of a tree's values
 mod round; // a constraint, once
 
-ghost use Rattle.std.specs.Prelude.{◌≡◌, ◌<◌, ◌≤◌, length};
+ghost use Rattle.std.specs.Prelude.{◌≡◌};
 ghost use Rattle.interval.specs.Views.{intervals_of};
 ghost use Rattle.record.specs.Leaving.{◌leaving◌};
 ghost use Rattle.record.specs.Views.{old, final};
-ghost use Rattle.constraint.specs.Views.{constraint_of};
+ghost use Rattle.constraint.specs.Views.{meaning};
 ghost use Rattle.narrow.specs.Narrowing.{propagate as propagate_of};
 ghost use Rattle.narrow.specs.Modes.{in_mode};
 ghost use Rattle.narrow.specs.Given.{propagate_given};
@@ -19,11 +19,11 @@ ghost use Rattle.record.specs.Refused.{numbered};
 ghost use Rattle.settings.specs.Settings.{usual};
 
 pub use backward::backward_propagate;
-use constraint::Records;
+use constraint::EmlConstraint;
 pub use forward::eval_interval;
-use interval::{Domain, Interval};
+use interval::Domain;
 use record::Refusal;
-pub use round::{Mode, propagate_once};
+pub use round::{Mode, Propagator};
 use settings::Settings;
 
 // What a step of narrowing did, the worst last.
@@ -49,46 +49,36 @@ impl From<PropResult> for u8 {
     }
 }
 
-// Constraint k in that mode, in rounds until nothing changes or a Conflict, at most as many as the settings say.
-pub fn propagate(
-    records: &Records,
-    k: usize,
-    settings: Settings,
-    mode: Mode,
-    boxes: &mut [Interval],
-) -> PropResult
-    requires { (k < records.now.count) × (length boxes.old ≤ 16) }
-    ensures { (result leaving final boxes) ≡ propagate_of settings (in_mode mode (constraint_of records.now k)) (old boxes) }
-{
-    let mut done = PropResult::Stable;
-    for _ in 0..settings.rounds {
-        let result = propagate_once(records, k, settings, mode, boxes);
-        done = done.max(result);
-        if result != PropResult::Changed {
-            return done;
+impl Propagator {
+    // In rounds until nothing changes or a Conflict, at most as many as the settings say.
+    #[tactic(auto, using(crate::proofs::Rounds::ends))]
+    pub fn propagate(self, c: EmlConstraint, domain: &mut Domain) -> PropResult
+        ensures count { domain.new.count ≡ domain.old.count }
+        ensures boxes { (result leaving intervals_of (final domain)) ≡ propagate_of self.settings (in_mode self.mode (meaning c.entry)) (intervals_of (old domain)) }
+    {
+        let mut done = PropResult::Stable;
+        for _ in 0..self.settings.rounds {
+            let result = self.propagate_once(c, domain);
+            done = done.max(result);
+            if result != PropResult::Changed {
+                return done;
+            }
         }
+        done
     }
-    done
-}
 
-// The same on boxes by value.
-pub fn narrow_boxes(
-    records: &Records,
-    k: usize,
-    settings: Settings,
-    mode: Mode,
-    domain: Domain,
-) -> (PropResult, Domain)
-    requires { k < records.now.count }
-    ensures { (result.1.count ≡ domain.count) × ((result.0 leaving intervals_of result.1) ≡ propagate_of settings (in_mode mode (constraint_of records.now k)) (intervals_of domain)) }
-{
-    let count = domain.count;
-    let mut boxes = domain.boxes;
-    let result = propagate(records, k, settings, mode, &mut boxes[..count]);
-    (result, Domain { boxes, count })
+    // The same on boxes by value.
+    pub fn narrow_boxes(self, c: EmlConstraint, domain: Domain) -> (PropResult, Domain)
+        ensures { (result.1.count ≡ domain.count) × ((result.0 leaving intervals_of result.1) ≡ propagate_of self.settings (in_mode self.mode (meaning c.entry)) (intervals_of domain)) }
+    {
+        let mut boxes = domain;
+        let result = self.propagate(c, &mut boxes);
+        (result, boxes)
+    }
 }
 
 // The tests in document 01's order, then `propagate` by the one constraint that the records leave. A refusal alters nothing.
+#[tactic(auto, using(crate::proofs::Given::given), unfolding(crate::specs::Given::propagate_given))]
 pub fn propagate_given(
     nodes: &[u8],
     constraints: &[u8],
@@ -99,14 +89,11 @@ pub fn propagate_given(
 {
     let records = file::read_given(nodes, constraints)?;
     let domain = Domain::of_sound_ends(lo, hi)?;
-    let settings = settings::usual();
-    let (result, narrowed) = narrow_boxes(
-        &records,
-        records.root(),
-        settings,
-        Mode::Written,
-        domain,
-    );
+    let propagator = Propagator {
+        settings: settings::usual(),
+        mode: Mode::Written,
+    };
+    let (result, narrowed) = propagator.narrow_boxes(records.constraint(), domain);
     narrowed.write_ends(lo, hi);
     Ok(result)
 }

@@ -1,30 +1,36 @@
 // One round: a constraint's atoms narrow in their order, and an Or goes on with what its branches leave.
 #![tactic(auto, using(crate::proofs::Choices::choices), unfolding(crate::specs::Narrowing::survive, crate::specs::Narrowing::hull_with, crate::specs::Narrowing::tightened, crate::specs::Narrowing::adopt_survivors))]
 
-ghost use Rattle.std.specs.Prelude.{◌≡◌, ◌<◌, ◌≤◌, length, None, option_map};
+ghost use Rattle.std.specs.Prelude.{◌≡◌, None, option_map};
 ghost use Rattle.interval.specs.Views.{intervals_of};
+ghost use Rattle.tree.specs.Views.{the_tree};
 ghost use Rattle.record.specs.Leaving.{◌leaving◌};
 ghost use Rattle.record.specs.Views.{old, final};
-ghost use Rattle.constraint.specs.Views.{constraint_of, constraints_before, Taken};
-ghost use Rattle.narrow.specs.Narrowing.{hulls, survive as survive_of, tightened, adopt as adopt_of, adopt_survivors};
-ghost use Rattle.narrow.specs.Modes.{under_not, relation_in, pass, pass_all, pass_any, pass_several};
+ghost use Rattle.constraint.specs.Records.{gather};
+ghost use Rattle.constraint.specs.Views.{meaning, meanings};
+ghost use Rattle.narrow.specs.Narrowing.{narrow_atom as atom_of, hulls, survive as survive_of, tightened, adopt as adopt_of, adopt_survivors};
+ghost use Rattle.narrow.specs.Modes.{under_not, relation_in, pass, pass_all, pass_any};
 
 use crate::PropResult;
 use crate::atom::narrow_atom;
-use constraint::{Record, Records, Relation};
+use constraint::{EmlConstraint, Operands, Relation, Shape};
 use interval::{Domain, Interval};
 use settings::Settings;
+use tree::EmlTree;
 
 // ---- the branches of an Or
 
-// The hull of each pair of boxes.
+// The hull of each pair of boxes. By number, as in `adopt`: of what is written through an adapter of `iter_mut` the checker knows nothing.
+#[tactic(auto, using(std::proofs::lemmas::Grind::common_steps, crate::proofs::Branches::hulls_length))]
 fn hull_boxes(a: Domain, b: Domain) -> Domain
     ensures { intervals_of result ≡ hulls (intervals_of a) (intervals_of b) }
 {
-    let count = a.count.min(b.count);
+    let left = a.as_slice();
+    let right = b.as_slice();
+    let count = left.len().min(right.len());
     let mut boxes = a.boxes;
     for i in 0..count {
-        boxes[i] = a.boxes[i].hull(b.boxes[i]);
+        boxes[i] = left[i].hull(right[i]);
     }
     Domain { boxes, count }
 }
@@ -54,6 +60,7 @@ fn tighten(settings: Settings, hull: Interval, b: &mut Interval) -> PropResult
     PropResult::Stable
 }
 
+#[tactic(auto, using(crate::proofs::Branches::adopting))]
 fn adopt(settings: Settings, hull: &[Interval], boxes: &mut [Interval]) -> PropResult
     ensures { (result leaving final boxes) ≡ adopt_of settings hull.now (old boxes) }
 {
@@ -64,15 +71,19 @@ fn adopt(settings: Settings, hull: &[Interval], boxes: &mut [Interval]) -> PropR
     result
 }
 
-fn adopt_survivors(
-    settings: Settings,
-    survivors: Option<Domain>,
-    boxes: &mut [Interval],
-) -> PropResult
-    ensures { (result leaving final boxes) ≡ adopt_survivors settings (option_map intervals_of survivors) (old boxes) }
+// On a copy of the list, since the checker lends no part of one that has a ghost field beside it. It knows by `as_slice` that there are n places.
+fn adopt_survivors(settings: Settings, survivors: Option<Domain>, domain: &mut Domain) -> PropResult
+    ensures count { domain.new.count ≡ domain.old.count }
+    ensures boxes { (result leaving intervals_of (final domain)) ≡ adopt_survivors settings (option_map intervals_of survivors) (intervals_of (old domain)) }
 {
     match survivors {
-        Some(hull) => adopt(settings, hull.as_slice(), boxes),
+        Some(hull) => {
+            let n = domain.as_slice().len();
+            let mut boxes = domain.boxes;
+            let result = adopt(settings, hull.as_slice(), &mut boxes[..n]);
+            domain.boxes = boxes;
+            result
+        }
         None => PropResult::Conflict,
     }
 }
@@ -80,7 +91,7 @@ fn adopt_survivors(
 // ---- constraints
 
 // How a constraint is taken: as it is written, its normal form, its negation.
-#[derive(Clone, Copy, PartialEq, Eq)]
+#[derive(Clone, Copy)]
 pub enum Mode {
     Written,
     Normal,
@@ -101,138 +112,99 @@ impl Mode {
     fn relation(self, relation: Relation) -> Relation
         ensures { result ≡ relation_in self relation }
     {
-        if self == Mode::Negated {
-            return normal::opposite(relation);
+        match self {
+            Mode::Written | Mode::Normal => relation,
+            Mode::Negated => normal::opposite(relation),
         }
-        relation
     }
 }
 
-// Constraint k. Under a Not the Rust narrows by the normal form of what is inside: the mode says so, and nothing is built.
-#[tactic(auto, using(crate::proofs::Passes::at_record), unfolding(crate::specs::Modes::pass))]
-#[cycle(round)]
-pub fn propagate_once(
-    records: &Records,
-    k: usize,
-    settings: Settings,
-    mode: Mode,
-    boxes: &mut [Interval],
-) -> PropResult
-    requires { (k < records.now.count) × (length boxes.old ≤ 16) }
-    ensures { (result leaving final boxes) ≡ pass settings mode (constraint_of records.now k) (old boxes) }
-{
-    match constraint::record_in(records.constraints, k) {
-        Record::Atom(relation, i) => {
-            narrow_atom(records.nodes, i, settings, mode.relation(relation), boxes)
+// How boxes are narrowed by a constraint: by the settings, and in which mode it is taken.
+#[derive(Clone, Copy)]
+pub struct Propagator {
+    pub settings: Settings,
+    pub mode: Mode,
+}
+
+impl Propagator {
+    // An atom, on a copy as in `adopt_survivors`.
+    fn narrow_atom(self, relation: Relation, tree: EmlTree, domain: &mut Domain) -> PropResult
+        ensures count { domain.new.count ≡ domain.old.count }
+        ensures boxes { (result leaving intervals_of (final domain)) ≡ atom_of self.settings (relation_in self.mode relation) (the_tree tree.entry) (intervals_of (old domain)) }
+    {
+        let n = domain.as_slice().len();
+        let mut boxes = domain.boxes;
+        let relation = self.mode.relation(relation);
+        let result = narrow_atom(tree, self.settings, relation, &mut boxes[..n]);
+        domain.boxes = boxes;
+        result
+    }
+
+    // A round. Under a Not the Rust narrows by the normal form of what is inside: the mode says so, and nothing is built.
+    #[tactic(auto, unfolding(crate::specs::Modes::pass))]
+    #[cycle(round)]
+    pub fn propagate_once(self, c: EmlConstraint, domain: &mut Domain) -> PropResult
+        ensures count { domain.new.count ≡ domain.old.count }
+        ensures boxes { (result leaving intervals_of (final domain)) ≡ pass self.settings self.mode (meaning c.entry) (intervals_of (old domain)) }
+    {
+        match c.shape() {
+            Shape::Atom(relation, tree) => self.narrow_atom(relation, tree, domain),
+            Shape::Not(inside) => {
+                let under = Propagator {
+                    mode: self.mode.under_not(),
+                    ..self
+                };
+                under.propagate_once(inside, domain)
+            }
+            Shape::And(cs) => match self.mode {
+                Mode::Written | Mode::Normal => self.narrow_all(cs, domain),
+                Mode::Negated => self.narrow_any(cs, domain),
+            },
+            Shape::Or(cs) => match self.mode {
+                Mode::Written | Mode::Normal => self.narrow_any(cs, domain),
+                Mode::Negated => self.narrow_all(cs, domain),
+            },
+            Shape::ForAll(_, _, _, _) | Shape::Exists(_, _, _, _) => PropResult::Stable,
         }
-        Record::Not => propagate_once(records, k - 1, settings, mode.under_not(), boxes),
-        Record::And(m) => {
-            narrow_several(records, m, k, mode == Mode::Negated, settings, mode, boxes)
+    }
+
+    // All of them, oldest first, up to a Conflict.
+    #[tactic(auto, using(crate::proofs::Passes::several))]
+    #[cycle(round)]
+    fn narrow_all(self, cs: Operands, domain: &mut Domain) -> PropResult
+        ensures count { domain.new.count ≡ domain.old.count }
+        ensures boxes { (result leaving intervals_of (final domain)) ≡ pass_all self.settings self.mode (gather (meanings cs.entry)) (intervals_of (old domain)) }
+    {
+        let Some((last, others)) = cs.split_last() else {
+            return PropResult::Stable;
+        };
+        let before = self.narrow_all(others, domain);
+        if before == PropResult::Conflict {
+            return before;
         }
-        Record::Or(m) => narrow_several(
-            records,
-            m,
-            k,
-            mode != Mode::Negated,
-            settings,
-            mode,
-            boxes,
-        ),
-        Record::ForAll(_, _, _) => PropResult::Stable,
-        Record::Exists(_, _, _) => PropResult::Stable,
+        before.max(self.propagate_once(last, domain))
     }
-}
 
-// The last m constraints that are finished before record end: one of them is to hold, or all.
-#[cycle(round)]
-fn narrow_several(
-    records: &Records,
-    m: usize,
-    end: usize,
-    one: bool,
-    settings: Settings,
-    mode: Mode,
-    boxes: &mut [Interval],
-) -> PropResult
-    requires { Taken records.now m end × (length boxes.old ≤ 16) }
-    ensures { (result leaving final boxes) ≡ pass_several one settings mode (constraints_before records.now m end) (old boxes) }
-{
-    if one {
-        let survivors = survivors_of(records, m, end, settings, mode, boxes);
-        return adopt_survivors(settings, survivors, boxes);
+    // One of them is to hold: the hull of those that survive is adopted.
+    #[cycle(round)]
+    fn narrow_any(self, cs: Operands, domain: &mut Domain) -> PropResult
+        ensures count { domain.new.count ≡ domain.old.count }
+        ensures boxes { (result leaving intervals_of (final domain)) ≡ adopt_survivors self.settings (pass_any self.settings self.mode (gather (meanings cs.entry)) (intervals_of (old domain)) None) (intervals_of (old domain)) }
+    {
+        let survivors = self.survivors_of(cs, domain);
+        adopt_survivors(self.settings, survivors, domain)
     }
-    narrow_all(records, m, end, settings, mode, boxes)
-}
 
-// All of them, oldest first, up to a Conflict.
-#[tactic(auto, using(crate::proofs::Passes::several))]
-#[cycle(round)]
-fn narrow_all(
-    records: &Records,
-    m: usize,
-    end: usize,
-    settings: Settings,
-    mode: Mode,
-    boxes: &mut [Interval],
-) -> PropResult
-    requires { Taken records.now m end × (length boxes.old ≤ 16) }
-    ensures { (result leaving final boxes) ≡ pass_all settings mode (constraints_before records.now m end) (old boxes) }
-{
-    if m == 0 {
-        return PropResult::Stable;
+    // The hull of those that survive, each narrowed from the same boxes.
+    #[tactic(auto, using(crate::proofs::Passes::several))]
+    #[cycle(round)]
+    fn survivors_of(self, cs: Operands, domain: &Domain) -> Option<Domain>
+        ensures { option_map intervals_of result ≡ pass_any self.settings self.mode (gather (meanings cs.entry)) (intervals_of domain.now) None }
+    {
+        let (last, others) = cs.split_last()?;
+        let so_far = self.survivors_of(others, domain);
+        let mut branch = *domain;
+        let result = self.propagate_once(last, &mut branch);
+        survive(so_far, result, branch)
     }
-    let last = end - 1;
-    let before = narrow_all(records, m - 1, records.start(last), settings, mode, boxes);
-    if before == PropResult::Conflict {
-        return before;
-    }
-    before.max(propagate_once(records, last, settings, mode, boxes))
-}
-
-// The hull of those that survive, each narrowed from the same boxes.
-#[tactic(auto, using(crate::proofs::Passes::several))]
-#[cycle(round)]
-fn survivors_of(
-    records: &Records,
-    m: usize,
-    end: usize,
-    settings: Settings,
-    mode: Mode,
-    boxes: &[Interval],
-) -> Option<Domain>
-    requires { Taken records.now m end × (length boxes.now ≤ 16) }
-    ensures { option_map intervals_of result ≡ pass_any settings mode (constraints_before records.now m end) boxes.now None }
-{
-    if m == 0 {
-        return None;
-    }
-    let last = end - 1;
-    let so_far = survivors_of(records, m - 1, records.start(last), settings, mode, boxes);
-    with_branch(records, last, settings, mode, boxes, so_far)
-}
-
-// Those so far, with constraint k if it survives in the boxes.
-#[cycle(round)]
-fn with_branch(
-    records: &Records,
-    k: usize,
-    settings: Settings,
-    mode: Mode,
-    boxes: &[Interval],
-    so_far: Option<Domain>,
-) -> Option<Domain>
-    requires { (k < records.now.count) × (length boxes.now ≤ 16) }
-    ensures { option_map intervals_of result ≡ survive_of (option_map intervals_of so_far) (pass settings mode (constraint_of records.now k) boxes.now) }
-{
-    let count = boxes.len();
-    let mut branch = Domain::new(boxes, count).boxes;
-    let result = propagate_once(records, k, settings, mode, &mut branch[..count]);
-    survive(
-        so_far,
-        result,
-        Domain {
-            boxes: branch,
-            count,
-        },
-    )
 }

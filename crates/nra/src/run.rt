@@ -4,7 +4,7 @@ ghost use Rattle.std.specs.Prelude.{◌≡◌, ◌+◌, ◌<◌, ◌≤◌, leng
 use super::answer::{Solved, Stop};
 use super::halving::Task;
 use interval::{Domain, Point};
-use narrow::{Mode, PropResult};
+use narrow::{Mode, PropResult, Propagator};
 use point::stack::Stack;
 use std::ops::ControlFlow;
 use std::ops::ControlFlow::{Break, Continue};
@@ -29,13 +29,11 @@ impl<'a> Task<'a> {
     fn narrow(&self, start: Domain, halvings: usize) -> ControlFlow<Solved, (Domain, Point)>
         ensures { MatchControlFlow result (Narrows self.now start) (Conflicts self.now start halvings) }
     {
-        let (result, boxes) = narrow::narrow_boxes(
-            &self.records,
-            self.records.root(),
-            self.settings,
-            Mode::Written,
-            start,
-        );
+        let propagator = Propagator {
+            settings: self.settings,
+            mode: Mode::Written,
+        };
+        let (result, boxes) = propagator.narrow_boxes(self.records.constraint(), start);
         if result == PropResult::Conflict {
             return Break(Solved::Failed {
                 stop: Stop::Conflict,

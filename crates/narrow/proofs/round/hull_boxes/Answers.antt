@@ -1,17 +1,12 @@
 -- `narrow::round::hull_boxes` meets its contract. Assumes nothing.
-use Rattle.std.proofs.Common.{arith, rules, ◌≡◌, length}
+use Rattle.std.proofs.Common.{arith}
 use Rattle.std.proofs.lemmas.Grind.{common_steps}
-use Rattle.narrow.proofs.Branches.{hulls_length, hull_next}
+use Rattle.narrow.proofs.Branches.{hull_next}
 use Rattle.narrow.proofs.round.hull_boxes.Goals as goal
 
 pub loop-i-preserved : goal.loop-i-preserved
-loop-i-preserved c =
-    let a : length c.args.a.boxes ≡ 16 = search rules in
-    let b : length c.args.b.boxes ≡ 16 = search rules in
-    (grind (arith, common_steps), hull_next _ _ _ _ _ _ _ c.loop-i.invariant.0 a b c.args.a.few c.args.b.few (omega arith) c.hull.ensures c.loop-i.invariant.1)
-
-pub returns : goal.returns
-returns c =
-    let a : length c.args.a.boxes ≡ 16 = search rules in
-    let b : length c.args.b.boxes ≡ 16 = search rules in
-    grind (arith, common_steps, hulls_length)
+loop-i-preserved c = record {
+  room = grind (arith, common_steps);
+  done =
+      hull_next _ _ _ _ _ (omega arith) (omega arith) (omega (arith, c.as_slice-left.ensures.1, c.args.a.few)) c.hull.ensures c.loop-i.invariant.done;
+}
