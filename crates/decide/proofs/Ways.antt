@@ -1,5 +1,5 @@
 -- The search of a sample, the decisions and the tests of a call: their ways out, over plain values. Assumes nothing.
-use Prim.Native.Nat.{ℕ, zero, suc, ◌+◌, ◌-◌}
+use Prim.Native.Nat.{ℕ, zero, suc}
 use mathlib.Core.Path.{◌≡◌, refl, sym, ap, ◌∙◌}
 use mathlib.Core.Bool.{Bool}
 use mathlib.Core.List.{List, []}
@@ -24,17 +24,12 @@ use Rattle.record.specs.declared.refusal.Refusal.{Refusal}
 use Rattle.file.specs.File.{Accepted, given_refusal, read_given}
 use Rattle.file.specs.FileLaws.{given_refused, given_is}
 use Rattle.record.specs.Leaving.{◌leaving◌, same_answer}
-use Rattle.interval.specs.declared.Interval.{Interval}
-use Rattle.constraint.specs.Constraint.{Constraint, Not}
-use Rattle.constraint.specs.Views.{constraint_of, the_constraint}
-use Rattle.normal.specs.NormalForm.{to_nnf}
+use Rattle.constraint.specs.Constraint.{Constraint}
 use Rattle.narrow.specs.contracts.PropResult.{the_type}
 use Rattle.narrow.specs.declared.PropResult.{PropResult}
 use Rattle.narrow.specs.declared.PropResult.TheVariants.{Stable, Changed, Conflict}
-use Rattle.narrow.specs.Narrowing.{is_conflict, propagate}
-use Rattle.decide.specs.declared.question.Question.{Question}
-use Rattle.decide.specs.Deciding.{QuantResult, refutes, later_refusal, decided_by}
-use Rattle.decide.specs.Views.{box_of}
+use Rattle.narrow.specs.Narrowing.{is_conflict}
+use Rattle.decide.specs.Deciding.{QuantResult, later_refusal, decided_by}
 
 -- ---- the first sample that passes the test
 pub first : {F : Type 0} {g : Mut F (Bor Float × Unit {0}) Bool} (test : Float → Bool) {s : IntoIter Float 5} (u : IntoIter Float 5) {f : F} {r : Option Float} {xs : List Float}
@@ -44,20 +39,12 @@ first test u {r = r} listed ran each =
     sym (option_map_id r) ∙ find_from_yields_List test _ _ r ran k each ∙ ap (find test) listed
 
 -- ---- a decision
-is_met : (r : PropResult) → sameb the_type r Conflict ≡ is_conflict r
+pub is_met : (r : PropResult) → sameb the_type r Conflict ≡ is_conflict r
 is_met Stable = refl
 is_met Changed = refl
 is_met Conflict = refl
 
-module _ (q : Question) (k : ℕ) (last : k + 1 ≡ q.records.count) where
-  root : constraint_of q.records k ≡ the_constraint q.records
-  root = let e : k ≡ q.records.count - 1 = omega arith in ap (constraint_of q.records) e
-
-  pub refuted : {b places : List Interval} {r : PropResult} {t : Bool} → b ≡ box_of q → (r leaving places) ≡ propagate q.settings (to_nnf (Not (constraint_of q.records k))) b
-      → t ≡ sameb the_type r Conflict → t ≡ refutes q.settings (the_constraint q.records) (box_of q)
-  unfolding refutes
-  refuted {r = r} boxes narrowed met =
-      met ∙ is_met r ∙ ap is_conflict (same_answer narrowed) ∙ rw (boxes, root) refl
+pub ruleset met = (is_met, same_answer)
 
 -- ---- the calls
 module _ (nodes b : List ℕ) (lo hi : Float) (n room : ℕ) (decide : Constraint → QuantResult) where

@@ -1,5 +1,5 @@
 // What a decision asks: of the constraint that the records leave, about variable `var` of `count` in its range.
-#![tactic(auto, using(point::specs::Room::accepted_fits), unfolding(crate::specs::Deciding::point_at, crate::specs::Deciding::boxes_at, crate::specs::Deciding::forall_samples, crate::specs::Deciding::exists_samples, number::specs::Computing::computing))]
+#![tactic(auto, unfolding(crate::specs::Deciding::point_at, crate::specs::Deciding::boxes_at, crate::specs::Deciding::forall_samples, crate::specs::Deciding::exists_samples, number::specs::Computing::computing))]
 
 ghost use Rattle.std.specs.Prelude.{◌≡◌, ◌≤◌};
 
@@ -8,6 +8,7 @@ use constraint::Records;
 use interval::{Domain, Interval, Point};
 use narrow::{Mode, PropResult, Propagator};
 use point::helpers::check_constraint;
+use point::stack::Stack;
 use settings::Settings;
 
 #[derive(Drop)]
@@ -66,17 +67,16 @@ impl<'a> Question<'a> {
     fn passes(&self, x: f64) -> bool
         ensures { result ≡ passes_at self.now x }
     {
-        let mut order = [0u16; 4096];
         check_constraint(
-            &self.records,
-            self.records.root(),
+            self.records.constraint(),
             self.settings,
-            self.point_at(x).as_slice(),
-            &mut order,
+            &self.point_at(x),
+            &mut Stack::new(),
         )
     }
 
     // Whether propagating the negation of the constraint meets a conflict.
+    #[tactic(auto, using(crate::proofs::Ways::met), unfolding(crate::specs::Deciding::refutes))]
     fn is_refuted(&self) -> bool
         ensures { result ≡ refutes self.now.settings (the_constraint self.now.records) (box_of self.now) }
     {

@@ -1,28 +1,23 @@
 -- From the answer of a run to that of the whole, over plain values. Assumes nothing.
-use Prim.Native.Nat.{ℕ, zero, suc, ◌+◌, ◌-◌, ◌≤◌}
-use mathlib.Core.Path.{◌≡◌, refl, sym, ap, ◌∙◌}
+use Prim.Native.Nat.{ℕ, zero, suc, ◌-◌, ◌≤◌}
+use mathlib.Core.Path.{◌≡◌, refl, sym}
 use mathlib.Core.List.{List, []}
 use native.Mathlib.Omega.{arith}
 use Rattle.settings.specs.declared.Settings.{Settings}
 use Rattle.interval.specs.declared.Interval.{Interval}
 use Rattle.interval.specs.Boxes.{starting}
 use Rattle.constraint.specs.Constraint.{num_vars}
-use Rattle.constraint.specs.Views.{constraint_of, the_constraint}
+use Rattle.constraint.specs.Views.{the_constraint}
 use Rattle.constraint.specs.RecordLaws.{one_left}
 use Rattle.constraint.specs.VarLaws.{vars_few}
 use Rattle.constraint.specs.declared.records.Records.{Records}
 use Rattle.point.specs.Check.{check}
-use Rattle.point.specs.Room.{accepted_fits}
 use Rattle.nra.specs.Solver.{Problem, Answer, assignment, failed, Stopped, begin_empty, begin_in, begin_at, begin, steps, finish, run, untried, solve}
 use Rattle.nra.specs.Answers.{tried, tried_in}
 
 -- of records that passed, at most 16 variables
 pub few_vars : (r : Records) → num_vars (the_constraint r) ≤ 16
 few_vars r = vars_few r (r.count - 1) (omega (arith, (one_left r).0))
-
--- and as many of the last record's constraint
-pub vars_are : (r : Records) (k : ℕ) {n : ℕ} → k + 1 ≡ r.count → n ≡ num_vars (constraint_of r k) → n ≡ num_vars (the_constraint r)
-vars_are r k e v = let q : k ≡ r.count - 1 = omega (arith, e) in v ∙ ap (λ (k : ℕ). num_vars (constraint_of r k)) q
 
 -- ---- the whole
 module _ (σ : Settings) (p : Problem) (bounds : List Interval) where
@@ -54,5 +49,3 @@ module _ (σ : Settings) (p : Problem) (bounds : List Interval) where
   boxes_solved limit (suc n) b k e q = rw q (some_solved limit n (sym e))
 
 pub ruleset solving = (few_vars, empty_solved, boxes_solved)
-
-pub ruleset placing = (accepted_fits, vars_are)

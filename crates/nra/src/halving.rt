@@ -27,8 +27,8 @@ impl<'a> Task<'a> {
     ghost use Rattle.nra.specs.Calls.{limit_refusal};
     ghost use Rattle.nra.specs.Solver.{distance_at, halved};
 
-    #[tactic(auto, unfolding(crate::specs::Calls::limit_refusal))]
     // 8 for a limit above 1,000,000 or a NaN tolerance.
+    #[tactic(auto, unfolding(crate::specs::Calls::limit_refusal))]
     pub fn new(records: Records<'a>, limit: usize, tolerance: f64) -> Result<Task<'a>, Refusal>
         ensures refusal { refusal_of result ≡ limit_refusal limit tolerance }
         ensures task { IfOk result (Asks (the_constraint records.entry) limit tolerance) }
@@ -48,13 +48,7 @@ impl<'a> Task<'a> {
     pub fn passes(&self, point: &Point, stack: &mut Stack) -> bool
         ensures { result ≡ check self.now.settings (values_of point.now) (the_constraint self.now.records) }
     {
-        check_constraint(
-            &self.records,
-            self.records.root(),
-            self.settings,
-            point,
-            stack,
-        )
+        check_constraint(self.records.constraint(), self.settings, point, stack)
     }
 
     // How far the point is from meeting the constraint: the residual's magnitude.
@@ -62,8 +56,7 @@ impl<'a> Task<'a> {
         ensures { result ≡ distance_at self.now.settings (the_constraint self.now.records) (values_of point.now) }
     {
         number::abs(evaluate_constraint_residual(
-            &self.records,
-            self.records.root(),
+            self.records.constraint(),
             self.settings,
             point,
             stack,
@@ -71,6 +64,7 @@ impl<'a> Task<'a> {
     }
 
     // The last widest box is halved: its lower half stays only if the residual there is strictly smaller.
+    #[tactic(auto, using(crate::proofs::Steps::one_changed), unfolding(crate::specs::Solver::halved, crate::specs::Solver::distance, number::specs::Computing::computing))]
     pub fn halved(&self, boxes: Domain, stack: &mut Stack) -> Domain
         requires { 0 < boxes.count }
         ensures { (result.count ≡ boxes.count) × (intervals_of result ≡ halved self.now.settings (the_constraint self.now.records) (intervals_of boxes)) }

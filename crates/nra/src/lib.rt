@@ -25,6 +25,7 @@ use record::Refusal;
 // ---- an accepted problem
 
 // Where there is no variable: whether the empty point passes.
+#[tactic(auto, unfolding(crate::specs::Solver::begin_empty, number::specs::Computing::computing))]
 fn solve_empty(task: &Task, stack: &mut Stack) -> Solved
     ensures { answer_of result ≡ begin_empty (check task.now.settings [] (the_constraint task.now.records)) }
 {
@@ -44,6 +45,7 @@ fn solve_empty(task: &Task, stack: &mut Stack) -> Solved
 }
 
 // In these bounds, of n variables.
+#[tactic(auto, using(crate::proofs::Answering::solving))]
 fn solve_in(task: &Task, bounds: &Domain, n: usize, stack: &mut Stack) -> Solved
     requires { n ≡ num_vars (the_constraint task.now.records) }
     ensures { answer_of result ≡ solve_of task.now.settings (asked task.now) (intervals_of bounds.now) task.now.limit }
@@ -55,10 +57,11 @@ fn solve_in(task: &Task, bounds: &Domain, n: usize, stack: &mut Stack) -> Solved
 }
 
 // Where there are places for a point: else 10.
+#[tactic(auto, unfolding(crate::specs::Calls::room_refusal))]
 fn solve_task(task: &Task, bounds: &Domain, room: usize) -> Result<Solved, Refusal>
     ensures { answered result ≡ answered_in task.now.settings (asked task.now) (intervals_of bounds.now) task.now.limit room }
 {
-    let n = task.records.num_vars(task.records.root());
+    let n = task.records.constraint().num_vars();
     if room < n {
         return Err(Refusal::Room);
     }
@@ -68,6 +71,7 @@ fn solve_task(task: &Task, bounds: &Domain, room: usize) -> Result<Solved, Refus
 // ---- what the exported calls call
 
 // Solves a house file. `room` is how many places the caller has for the point.
+#[tactic(auto, using(file::specs::FileLaws::file_refused, record::specs::RefusalLaws::never_none, record::specs::RefusalLaws::refuses, record::specs::RefusalLaws::refuses_first), unfolding(crate::specs::Calls::solve_file))]
 pub fn solve_file(file: &[u8], limit: usize, tolerance: f64, room: usize) -> Result<Solved, Refusal>
     ensures { answered result ≡ solve_file usual file.now limit tolerance room }
 {
@@ -77,6 +81,7 @@ pub fn solve_file(file: &[u8], limit: usize, tolerance: f64, room: usize) -> Res
 }
 
 // Solves records with bounds.
+#[tactic(auto, using(file::specs::FileLaws::given_refused, record::specs::RefusalLaws::never_none, record::specs::RefusalLaws::refuses, record::specs::RefusalLaws::refuses_first), unfolding(crate::specs::Calls::solve_given, crate::specs::Calls::boxes_refusal))]
 pub fn solve(
     nodes: &[u8],
     constraints: &[u8],

@@ -1,4 +1,6 @@
 // A run (document 01; nra.rs): all before the first halving, a halving with all that follows it, and many of them.
+#![tactic(auto, using(crate::proofs::Steps::tried_failed), unfolding(crate::specs::Solver::begin_in, crate::specs::Solver::begin_narrowed, crate::specs::Solver::begin_checked, crate::specs::Solver::settle_in, crate::specs::Solver::settle_narrowed, crate::specs::Solver::settle_checked, crate::specs::Solver::halve, crate::specs::Solver::distance, crate::specs::Solver::run, crate::specs::Solver::finish, crate::specs::Answers::tried, number::specs::Computing::computing))]
+
 ghost use Rattle.std.specs.Prelude.{◌≡◌, ◌+◌, ◌<◌, ◌≤◌, length};
 
 use super::answer::{Solved, Stop};
@@ -93,6 +95,7 @@ impl<'a> Task<'a> {
     }
 
     // Halves until the run breaks off or has made as many halvings as its limit.
+    #[tactic(auto, using(crate::proofs::Steps::run_steps))]
     pub fn steps(&self, start: Domain, stack: &mut Stack) -> ControlFlow<Solved, State>
         requires { 0 < start.count }
         ensures { progress_of result ≡ steps self.now.settings (asked self.now) self.now.limit (begin_in self.now.settings (asked self.now) (intervals_of start)) }
