@@ -26,6 +26,7 @@ pub struct Problem<'a> {
 
 // ---- the header
 
+#[tactic(auto, unfolding(crate::specs::File::is_headed))]
 fn is_headed(file: &[u8]) -> bool
     ensures { result ≡ is_headed file.now }
 {
@@ -37,6 +38,7 @@ fn is_headed(file: &[u8]) -> bool
     (mark == 0x514c_4d45) & (version == 1)
 }
 
+#[tactic(auto, unfolding(crate::specs::File::is_laid_out))]
 fn is_laid_out(file: &[u8]) -> bool
     requires { 32 ≤ length file.now }
     ensures { result ≡ is_laid_out file.now }
@@ -97,6 +99,7 @@ impl<'a> House<'a> {
         record::read_u32(self.file, 20) as usize
     }
 
+    #[tactic(auto, unfolding(crate::specs::File::nodes_of))]
     fn nodes(self) -> &'a [u8]
         ensures { result.now ≡ nodes_of self.entry.file.now }
     {
@@ -104,6 +107,7 @@ impl<'a> House<'a> {
         &self.file[32..to]
     }
 
+    #[tactic(auto, unfolding(crate::specs::File::constraints_of))]
     fn constraints(self) -> &'a [u8]
         ensures { result.now ≡ constraints_of self.entry.file.now }
     {
@@ -112,6 +116,7 @@ impl<'a> House<'a> {
         &self.file[from..to]
     }
 
+    #[tactic(auto, unfolding(crate::specs::File::bounds_of))]
     fn bounds(self) -> &'a [u8]
         ensures { result.now ≡ bounds_of self.entry.file.now }
     {
@@ -121,6 +126,7 @@ impl<'a> House<'a> {
 }
 
 // Bound k, read with no test.
+#[tactic(auto, unfolding(crate::specs::File::bound_at))]
 fn bound_in(bounds: &[u8], k: usize) -> Interval
     requires { 16 * k + 16 ≤ length bounds.now }
     ensures { result ≡ bound_at bounds.now k }
@@ -135,6 +141,7 @@ fn bound_in(bounds: &[u8], k: usize) -> Interval
 // ---- the bodies
 
 // The tests of each of the bounds: 6; and the boxes that they are.
+#[tactic(auto, using(crate::proofs::Parts::bound_tests), unfolding(crate::specs::File::bound_refusal, crate::specs::File::bounds, record::specs::Refusal::first))]
 fn read_bounds(bytes: &[u8]) -> Result<Domain, Refusal>
     requires { length bytes.now / 16 ≤ 16 }
     ensures refusal { refusal_of result ≡ first (bound_refusal bytes.now) (length bytes.now / 16) }
@@ -155,6 +162,7 @@ fn read_bounds(bytes: &[u8]) -> Result<Domain, Refusal>
 }
 
 // The tests of nodes, 3, 4, and of the constraint records over them, 5, 6, 7.
+#[tactic(auto, using(crate::proofs::Parts::record_tests))]
 fn read_records<'a>(nodes: &'a [u8], constraints: &'a [u8]) -> Result<Records<'a>, Refusal>
     requires { (length nodes.now / 16 ≤ 1024) × (length constraints.now / 24 ≤ 256) }
     ensures refusal { refusal_of result ≡ (nodes_refusal nodes.now (length nodes.now / 16) or_else records_refusal (length nodes.now / 16) constraints.now (length constraints.now / 24)) }
@@ -166,6 +174,7 @@ fn read_records<'a>(nodes: &'a [u8], constraints: &'a [u8]) -> Result<Records<'a
 
 // ---- what other crates call
 
+#[tactic(auto, using(crate::proofs::Parts::file_tests))]
 pub fn read(file: &[u8]) -> Result<Problem<'_>, Refusal>
     ensures refusal { refusal_of result ≡ refusal file.now }
     ensures problem { IfOk result (λ p. read_file file.now ≡ Accepted (the_constraint p.records) (intervals_of p.bounds)) }
@@ -177,6 +186,7 @@ pub fn read(file: &[u8]) -> Result<Problem<'_>, Refusal>
 }
 
 // The same of node records and constraint records given without a file: as many as the bytes make.
+#[tactic(auto, using(crate::proofs::Parts::given_read), unfolding(crate::specs::File::given_refusal, crate::specs::File::is_counted))]
 pub fn read_given<'a>(nodes: &'a [u8], constraints: &'a [u8]) -> Result<Records<'a>, Refusal>
     ensures refusal { refusal_of result ≡ given_refusal nodes.now constraints.now }
     ensures records { IfOk result (Holds nodes.now constraints.now) }
@@ -191,6 +201,7 @@ pub fn read_given<'a>(nodes: &'a [u8], constraints: &'a [u8]) -> Result<Records<
 }
 
 // The number of variables of a file's constraint.
+#[tactic(auto, using(crate::specs::FileLaws::file_refused, record::specs::RefusalLaws::never_none))]
 pub fn num_vars(file: &[u8]) -> Result<u64, Refusal>
     ensures { numbered result ≡ answered num_vars (read_file file.now) }
 {
@@ -199,6 +210,7 @@ pub fn num_vars(file: &[u8]) -> Result<u64, Refusal>
 }
 
 // The same of records.
+#[tactic(auto, using(crate::specs::FileLaws::given_refused, record::specs::RefusalLaws::never_none))]
 pub fn num_vars_given(nodes: &[u8], constraints: &[u8]) -> Result<u64, Refusal>
     ensures { numbered result ≡ answered num_vars (read_given nodes.now constraints.now) }
 {

@@ -1,3 +1,3 @@
 -- Laws that several proofs cite.
-mod Forms
-mod Calls
+pub mod Forms
+pub mod Calls

@@ -1,6 +1,6 @@
 // The normal form of a constraint (document 01, "Narrowing"; constraint.rs): Not is pushed down to the atoms, and records are written in
 // postorder.
-#![tactic(auto)]
+#![tactic(auto, using(crate::proofs::Forms::steps))]
 
 ghost use Rattle.std.specs.Prelude.{◌≡◌, ◌+◌, ◌*◌, ◌≤◌, ◌<◌, length};
 ghost use Rattle.record.specs.Leaving.{◌leaving◌};
@@ -122,6 +122,7 @@ fn negate_all(records: &Records, m: usize, n: usize, out: &mut [u8], at: usize) 
 // ---- the call on records that are given
 
 // How many of the records are no Not: so many the normal form has.
+#[tactic(auto, unfolding(crate::specs::Given::count_kept))]
 fn count_kept(records: &Records) -> usize
     ensures { (result ≡ count_kept records.now.constraints.now records.now.count) × (result ≤ 256) }
 {
@@ -133,6 +134,7 @@ fn count_kept(records: &Records) -> usize
 }
 
 // The tests in document 01's order, then the records of the normal form of the one constraint that is left. A refusal alters nothing.
+#[tactic(auto, using(crate::proofs::Calls::call_tests), unfolding(crate::specs::Given::to_nnf_given, crate::specs::Given::nnf_refusal))]
 pub fn to_nnf_given(nodes: &[u8], constraints: &[u8], out: &mut [u8]) -> Result<usize, Refusal>
     ensures { (numbered result leaving final out) ≡ to_nnf_given nodes.now constraints.now (old out) }
 {
@@ -140,5 +142,5 @@ pub fn to_nnf_given(nodes: &[u8], constraints: &[u8], out: &mut [u8]) -> Result<
     if out.len() < 24 * count_kept(&records) {
         return Err(Refusal::Room);
     }
-    Ok(to_nnf(&records, records.constraint().root, out, 0))
+    Ok(to_nnf(&records, records.count - 1, out, 0))
 }

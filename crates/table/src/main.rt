@@ -24,7 +24,12 @@ fn is_same(solved: &Solved, head: &[u8; 176]) -> bool {
             residual,
             halvings,
             ..
-        } => (false, residual, halvings, Point::zeros(interval::Count { n: 0 })),
+        } => (
+            false,
+            residual,
+            halvings,
+            Point::zeros(interval::Count { n: 0 }),
+        ),
     };
     let short = (head[5] == 0) & (head[6] == solved.stop_number()) & ((head[7] == 1) == exact);
     let long = (record::read_u64(head, 24) == number::bits_of(residual))
