@@ -133,6 +133,7 @@ fn run(tree: EmlTree, settings: Settings, point: &[f64], stack: &mut Stack) -> R
 }
 
 // The stack is lent, so that it is made once for many evaluations.
+#[tactic(auto, using(crate::specs::MachineLaws::run_means))]
 pub fn eval_complex(
     tree: EmlTree,
     settings: Settings,
