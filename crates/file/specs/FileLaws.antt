@@ -1,5 +1,5 @@
 -- Laws of files that are laid out, and of files and records that are accepted: what a function that takes one cites. Assumes nothing.
-use Rattle.std.specs.Prelude.{ℕ, ◌+◌, ◌*◌, ◌/◌, ◌%◌, ◌≤◌, ◌<◌, ◌≡◌, true, ◌&&◌, List, [], leb, eqb, length, get_or}
+use Rattle.std.specs.Prelude.{ℕ, ◌+◌, ◌*◌, ◌/◌, ◌%◌, ◌≤◌, ◌<◌, ◌≡◌, true, ◌&&◌, List, [], leb, eqb, length}
 use Rattle.std.proofs.Common.{sym, ◌∙◌, arith, length-take}
 use borrow.Author.Tests.{leb-true, eqb-true, le-leb}
 use Rattle.std.specs.Float.{binary64}
@@ -13,8 +13,8 @@ use Rattle.tree.specs.NodeLaws.{list_valid}
 use Rattle.tree.specs.Code.{largest, Within}
 use Rattle.tree.specs.SizeLaws.{list_within}
 use Rattle.constraint.specs.Records.{records_refusal}
-use Rattle.constraint.specs.Starts.{start_at, Ready}
-use Rattle.constraint.specs.RecordLaws.{only_left}
+use Rattle.constraint.specs.Starts.{Ready}
+use Rattle.constraint.specs.RecordLaws.{only_left, ready}
 use Rattle.file.specs.File.{node_count, constraint_count, bound_count, constraints_from, bounds_from, nodes_of, constraints_of, bounds_of, is_headed, is_laid_out, bound_at, bounds, bound_refusal, refusal, Read, Refused, Accepted, read_by, left, read_file, is_counted, given_refusal, read_given}
 use Rattle.file.specs.Code.{Laid}
 
@@ -118,18 +118,11 @@ module _ (file : List ℕ) (e : refusal file ≡ 0) where
   unfolding bound_refusal
   bound_sound k l = none_unless 5 _ (none_of_each (bound_refusal (bounds_of file)) (bound_count file) passed.4 k l)
 
-  pub file_ready : (starts : List ℕ) → length starts ≡ 256 → ((k : ℕ) → k < constraint_count file → get_or starts k 0 ≡ start_at (constraints_of file) k) →
-      Ready (nodes_of file) (constraints_of file) (constraint_count file) starts
-  file_ready starts room begins =
+  pub file_ready : Ready (nodes_of file) (constraints_of file) (constraint_count file)
+  file_ready =
       let count : length (nodes_of file) / 16 ≡ node_count file = omega (arith, length_nodes file is_laid) in
-      record {
-        valid = rw count file_valid;
-        few = is_laid.few_constraints;
-        there = omega (arith, length_constraints file is_laid);
-        accepted = rw count passed.3;
-        room = room;
-        begins = begins;
-      }
+      ready (nodes_of file) (constraints_of file) (constraint_count file) (rw count passed.3) (rw count file_valid) is_laid.few_constraints
+      (omega (arith, length_constraints file is_laid))
 
   pub read_is : read_file file ≡ Accepted (left (nodes_of file) (constraints_of file) (constraint_count file)) (bounds (bounds_of file) (bound_count file))
   unfolding read_file
@@ -158,15 +151,8 @@ module _ (nodes b : List ℕ) (e : given_refusal nodes b ≡ 0) where
   pub some_given : 0 < length b / 24
   some_given = (only_left (length nodes / 16) b (length b / 24) passed_given.2).0
 
-  pub given_ready : (starts : List ℕ) → length starts ≡ 256 → ((k : ℕ) → k < length b / 24 → get_or starts k 0 ≡ start_at b k) → Ready nodes b (length b / 24) starts
-  given_ready starts room begins = record {
-    valid = given_valid;
-    few = (counted nodes b passed_given.0).1;
-    there = omega arith;
-    accepted = passed_given.2;
-    room = room;
-    begins = begins;
-  }
+  pub given_ready : Ready nodes b (length b / 24)
+  given_ready = ready nodes b (length b / 24) passed_given.2 given_valid (counted nodes b passed_given.0).1 (omega arith)
 
   pub given_is : read_given nodes b ≡ Accepted (left nodes b (length b / 24)) []
   unfolding read_given
