@@ -19,6 +19,7 @@ pub struct Records<'a> {
     pub constraints: &'a [u8],
     pub count: usize,
     pub ghost ready: { Ready nodes.now constraints.now count },
+    pub ghost some: { 0 < count },
 }
 
 // What a record finishes, from those that it takes: 7.
