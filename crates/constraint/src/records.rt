@@ -12,7 +12,7 @@ use crate::{EmlConstraint, Record, is_ranged, is_record, quantifier_of, record_i
 use record::Refusal;
 use tree::EmlTree;
 
-// They stand over nodes that passed too.
+// They stand over nodes that passed too, all of them; free places behind are not lent.
 #[derive(Drop)]
 pub struct Records<'a> {
     pub nodes: &'a [u8],
