@@ -14,7 +14,7 @@ returns-clause-fits c =
       arith,
       ap (λ a. length (point_of a)) c.solve_in.ensures,
       solve_few c.args.task.now.settings (asked c.args.task.now) (intervals_of c.args.bounds.now) c.args.task.now.limit,
-      c.num_vars.ensures,
+      c.num_vars-n.ensures,
       ap num_vars c.constraint.ensures.meaning,
       c.if-room-n.false,
     )
