@@ -1,3 +1,2 @@
-mod Threshold
 mod Machine
 mod Answers

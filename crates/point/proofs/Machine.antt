@@ -1,5 +1,5 @@
 -- The stack after an instruction, and after a tree's. Assumes nothing.
-use Prim.Native.Nat.{◌+◌}
+use Prim.Native.Nat.{◌+◌, ◌≤◌}
 use mathlib.Core.Path.{◌≡◌, ap}
 use mathlib.Core.List.{List, [], ◌∷◌}
 use native.Mathlib.Omega.{arith}
@@ -11,6 +11,10 @@ use Rattle.settings.specs.declared.Settings.{Settings}
 use Rattle.point.specs.declared.eval.Instruction.{Instruction}
 use Rattle.point.specs.declared.eval.Instruction.TheVariants.{PushOne, PushConst, PushVar, Eml}
 use Rattle.point.specs.declared.eval.EvalError.{EvalError}
+use Rattle.tree.specs.Tree.{depth}
+use Rattle.tree.specs.NodeLaws.{depth_small}
+use Rattle.tree.specs.Views.{the_tree}
+use Rattle.tree.specs.declared.EmlTree.{EmlTree}
 use Rattle.point.specs.Eval.{variable, eml_complex, and_then}
 use Rattle.point.specs.Machine.{pushed, reduced, step, height}
 
@@ -52,3 +56,7 @@ module _ (σ : Settings) (s : List Complex) where
         w = cc
     both_there (Ok a) (Err d) h g = cc
     both_there (Err d) y h g = cc
+
+-- no accepted tree is deeper than the stack
+pub shallow : (t : EmlTree) → depth (the_tree t) ≤ 128
+shallow t = depth_small _ _ t.valid t.root (omega arith)
