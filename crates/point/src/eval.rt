@@ -96,6 +96,7 @@ fn reduce(settings: Settings, stack: &mut Stack) -> Result<Complex, EvalError>
     eml_complex(settings, left, right)
 }
 
+#[tactic(auto, using(crate::proofs::Machine::raised, crate::proofs::Machine::one_more, std::proofs::lemmas::Result::err_from_is_err_and), unfolding(crate::specs::Machine::step, number::specs::Computing::computing))]
 fn step(
     instruction: Instruction,
     settings: Settings,
