@@ -11,11 +11,13 @@ use Rattle.settings.specs.declared.Settings.{Settings}
 use Rattle.point.specs.declared.eval.Instruction.{Instruction}
 use Rattle.point.specs.declared.eval.Instruction.TheVariants.{PushOne, PushConst, PushVar, Eml}
 use Rattle.point.specs.declared.eval.EvalError.{EvalError}
+use Rattle.std.proofs.lemmas.Result.{err_from_is_err_and}
 use Rattle.tree.specs.Tree.{depth}
 use Rattle.tree.specs.NodeLaws.{depth_small}
 use Rattle.tree.specs.Views.{the_tree}
 use Rattle.tree.specs.declared.EmlTree.{EmlTree}
 use Rattle.point.specs.Eval.{variable, eml_complex, and_then}
+use Rattle.point.specs.MachineLaws.{run_means}
 use Rattle.point.specs.Machine.{pushed, reduced, step, height}
 
 pub one_more : (x : Result Complex EvalError) (s t : List Complex) → Ok t ≡ pushed x s → length t ≡ length s + 1
@@ -60,3 +62,6 @@ module _ (σ : Settings) (s : List Complex) where
 -- no accepted tree is deeper than the stack
 pub shallow : (t : EmlTree) → depth (the_tree t) ≤ 128
 shallow t = depth_small _ _ t.valid t.root (omega arith)
+
+-- the ways out of a tree's run
+pub ruleset runs = (err_from_is_err_and, run_means, one_more, left_fails, right_fails, both_there)

@@ -117,6 +117,7 @@ fn step(
 }
 
 // The tree's instructions in postorder.
+#[tactic(auto, using(crate::proofs::Machine::runs), unfolding(crate::specs::Eval::eval_complex, crate::specs::Machine::step, tree::specs::Tree::depth))]
 fn run(tree: EmlTree, settings: Settings, point: &[f64], stack: &mut Stack) -> Result<(), EvalError>
     requires { length stack.old + depth (the_tree tree) ≤ 128 }
     ensures { ran result stack.new ≡ running settings point.now (postorder (the_tree tree.entry)) stack.old }
