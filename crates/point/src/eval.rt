@@ -96,7 +96,7 @@ fn reduce(settings: Settings, stack: &mut Stack) -> Result<Complex, EvalError>
     eml_complex(settings, left, right)
 }
 
-#[tactic(auto, using(std::proofs::lemmas::Result::err_from_is_err_and), unfolding(crate::specs::Machine::step, number::specs::Computing::computing))]
+#[tactic(auto, unfolding(crate::specs::Machine::step, number::specs::Computing::computing))]
 fn step(
     instruction: Instruction,
     settings: Settings,
@@ -117,7 +117,7 @@ fn step(
 }
 
 // The tree's instructions in postorder.
-#[tactic(auto, using(std::proofs::lemmas::Result::err_from_is_err_and, crate::specs::MachineLaws::run_means), unfolding(crate::specs::Eval::eval_complex, crate::specs::Machine::step, tree::specs::Tree::depth))]
+#[tactic(auto, using(crate::specs::MachineLaws::run_means), unfolding(crate::specs::Eval::eval_complex, crate::specs::Machine::step, tree::specs::Tree::depth))]
 fn run(tree: EmlTree, settings: Settings, point: &[f64], stack: &mut Stack) -> Result<(), EvalError>
     requires { length stack.old + depth (the_tree tree) ≤ 128 }
     ensures { ran result stack.new ≡ running settings point.now (postorder (the_tree tree.entry)) stack.old }
@@ -136,7 +136,7 @@ fn run(tree: EmlTree, settings: Settings, point: &[f64], stack: &mut Stack) -> R
 }
 
 // The stack is lent, so that it is made once for many evaluations.
-#[tactic(auto, using(crate::specs::MachineLaws::run_means, crate::proofs::Machine::shallow))]
+#[tactic(auto, using(crate::specs::MachineLaws::run_means, tree::specs::NodeLaws::depth_small))]
 pub fn eval_complex(
     tree: EmlTree,
     settings: Settings,

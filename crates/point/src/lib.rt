@@ -25,7 +25,7 @@ use stack::Stack;
 use tree::EmlTree;
 
 // The tests of eval_real, and the node's tree.
-#[tactic(auto, using(crate::proofs::Answers::tests), unfolding(crate::specs::Answer::eval_refusal))]
+#[tactic(auto, using(tree::specs::NodeLaws::list_valid), unfolding(crate::specs::Answer::eval_refusal))]
 fn test_node<'a>(nodes: &'a [u8], k: usize, point: &[f64]) -> Result<EmlTree<'a>, Refusal>
     ensures refusal { refusal_of result ≡ eval_refusal nodes.now k point.now }
     ensures tree { IfOk result (λ t. the_tree t ≡ tree_at nodes.now k) }
@@ -45,7 +45,7 @@ fn test_node<'a>(nodes: &'a [u8], k: usize, point: &[f64]) -> Result<EmlTree<'a>
 }
 
 // The value of a node's tree at the point.
-#[tactic(auto, using(crate::proofs::Answers::tests), unfolding(crate::specs::Answer::eval_answer))]
+#[tactic(auto, unfolding(crate::specs::Answer::eval_answer))]
 pub fn eval_real(
     nodes: &[u8],
     node: usize,
@@ -58,7 +58,7 @@ pub fn eval_real(
 }
 
 // The tests of records and of a point.
-#[tactic(auto, using(crate::proofs::Answers::tests), unfolding(crate::specs::Answer::point_refusal))]
+#[tactic(auto, unfolding(crate::specs::Answer::point_refusal))]
 fn test_point<'a>(
     nodes: &'a [u8],
     constraints: &'a [u8],

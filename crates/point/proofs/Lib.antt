@@ -1,2 +1,0 @@
-mod Machine
-mod Answers
