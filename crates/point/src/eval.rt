@@ -1,5 +1,6 @@
 // A tree's value at a point (eval.rs): its instructions in postorder, on a stack of complex numbers.
 #![tactic(auto, unfolding(crate::specs::Eval::clamped, crate::specs::Eval::beyond, crate::specs::Eval::eml_complex, crate::specs::Eval::numeric, crate::specs::Eval::variable, crate::specs::Eval::real_part, crate::specs::Eval::eval_real, number::specs::Computing::computing))]
+
 ghost use Rattle.std.specs.Prelude.{◌≡◌, ◌≤◌, ◌+◌, length};
 ghost use Rattle.tree.specs.Tree.{depth};
 ghost use Rattle.point.specs.Eval.{real as real_of, clamped, beyond, eml_complex, variable as variable_of, eval_complex, real_part, eval_real};
