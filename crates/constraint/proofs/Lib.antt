@@ -1,3 +1,4 @@
 pub mod Testing
 pub mod Read
 pub mod Outcomes
+pub mod Taking

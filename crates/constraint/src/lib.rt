@@ -33,6 +33,7 @@ pub enum Relation {
     NeZero,
 }
 
+#[tactic(auto, unfolding(crate::specs::Records::relation_of, number::specs::Computing::computing))]
 impl TryFrom<u32> for Relation {
     type Error = Refusal;
 
@@ -74,6 +75,7 @@ enum Kind {
     Exists,
 }
 
+#[tactic(auto, unfolding(number::specs::Computing::computing))]
 impl TryFrom<u32> for Kind {
     type Error = Refusal;
 
@@ -122,6 +124,7 @@ pub enum Record {
 }
 
 // Record k, read with no test.
+#[tactic(auto, unfolding(crate::specs::Records::record_at, number::specs::Computing::computing))]
 pub fn record_in(constraints: &[u8], k: usize) -> Record
     requires { 24 * k + 24 ≤ length constraints.now }
     ensures { result ≡ record_at constraints.now k }
@@ -148,6 +151,7 @@ pub fn record_in(constraints: &[u8], k: usize) -> Record
 }
 
 // Whether record k is a constraint's, over count nodes.
+#[tactic(auto, unfolding(crate::specs::Records::is_record, number::specs::Computing::computing))]
 pub fn is_record(constraints: &[u8], k: usize, count: usize) -> bool
     requires { 24 * k + 24 ≤ length constraints.now }
     ensures { result ≡ is_record count constraints.now k }
@@ -250,6 +254,7 @@ fn words_of(r: Record) -> Words
 }
 
 // Record number `at`; the answer is the number of the next.
+#[tactic(auto, using(crate::specs::PutLaws::puts_one, crate::proofs::Outcomes::record_words))]
 pub fn write_record(out: &mut [u8], at: usize, r: Record) -> usize
     requires { Writable 1024 r × (24 * (at + 1) ≤ length out.old) }
     ensures { Puts (old out) (final out) at result (r ∷ []) }
@@ -266,6 +271,7 @@ pub fn write_record(out: &mut [u8], at: usize, r: Record) -> usize
 // ---- the comparisons
 
 // `lt`, `le`, `gt` or `ge`, by the relation: x - y is appended to the list of count nodes, and the atom's record on it is written to out.
+#[tactic(auto, using(crate::proofs::Outcomes::comparing))]
 pub fn compare(
     nodes: &mut [u8],
     count: usize,

@@ -40,6 +40,7 @@ impl<'a> EmlConstraint<'a> {
     ghost use Rattle.constraint.specs.Starts.{start_at};
     ghost use Rattle.constraint.specs.Views.{meaning, shape_meaning, Below};
 
+    #[tactic(auto, using(crate::proofs::Taking::shapes))]
     pub fn shape(self) -> Shape<'a>
         ensures meaning { shape_meaning result ≡ meaning self.entry }
         ensures below { Below self.entry.root result }
@@ -118,6 +119,7 @@ impl<'a> Operands<'a> {
     ghost use Rattle.constraint.specs.Views.{meaning, meanings};
 
     // The last, and those before it.
+    #[tactic(auto, using(crate::proofs::Taking::operands))]
     pub fn split_last(self) -> Option<(EmlConstraint<'a>, Operands<'a>)>
         ensures none { IfNone result (meanings self.entry ≡ []) }
         ensures some { IfSome result (λ p. meanings self.entry ≡ meanings p.1 ++ meaning p.0 ∷ []) }

@@ -1,4 +1,6 @@
 // The check's parts: a bool is what a constraint's check answers at a point.
+#![tactic(auto, unfolding(crate::specs::Check::holds, number::specs::Computing::computing))]
+
 ghost use Rattle.std.specs.Prelude.{◌≡◌, not};
 ghost use Rattle.point.specs.Check.{holds, passes, check};
 ghost use Rattle.point.specs.Measure.{passes_none, passes_more, is_decided};

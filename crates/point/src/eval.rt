@@ -1,4 +1,6 @@
 // A tree's value at a point (eval.rs): its instructions in postorder, on a stack of complex numbers.
+#![tactic(auto, unfolding(crate::specs::Eval::clamped, crate::specs::Eval::beyond, crate::specs::Eval::eml_complex, crate::specs::Eval::numeric, crate::specs::Eval::variable, crate::specs::Eval::real_part, crate::specs::Eval::eval_real, number::specs::Computing::computing))]
+
 ghost use Rattle.std.specs.Prelude.{◌≡◌, ◌≤◌, ◌+◌, length};
 ghost use Rattle.tree.specs.Tree.{depth};
 ghost use Rattle.point.specs.Eval.{real as real_of, clamped, beyond, eml_complex, variable as variable_of, eval_complex, real_part, eval_real};
@@ -95,6 +97,7 @@ fn reduce(settings: Settings, stack: &mut Stack) -> Result<Complex, EvalError>
     eml_complex(settings, left, right)
 }
 
+#[tactic(auto, unfolding(crate::specs::Machine::step, number::specs::Computing::computing))]
 fn step(
     instruction: Instruction,
     settings: Settings,
@@ -115,6 +118,7 @@ fn step(
 }
 
 // The tree's instructions in postorder.
+#[tactic(auto, using(crate::specs::MachineLaws::run_means), unfolding(crate::specs::Eval::eval_complex, crate::specs::Machine::step, tree::specs::Tree::depth))]
 fn run(tree: EmlTree, settings: Settings, point: &[f64], stack: &mut Stack) -> Result<(), EvalError>
     requires { length stack.old + depth (the_tree tree) ≤ 128 }
     ensures { ran result stack.new ≡ running settings point.now (postorder (the_tree tree.entry)) stack.old }
@@ -133,7 +137,7 @@ fn run(tree: EmlTree, settings: Settings, point: &[f64], stack: &mut Stack) -> R
 }
 
 // The stack is lent, so that it is made once for many evaluations.
-#[tactic(auto, using(crate::specs::MachineLaws::run_means))]
+#[tactic(auto, using(crate::specs::MachineLaws::run_means, tree::specs::NodeLaws::depth_small))]
 pub fn eval_complex(
     tree: EmlTree,
     settings: Settings,

@@ -1,4 +1,6 @@
 // A point against a constraint (helpers.rs): the check and the residual, by one recursion over the constraint's records.
+#![tactic(auto, unfolding(constraint::specs::Records::gather, number::specs::Computing::computing))]
+
 ghost use Rattle.std.specs.Prelude.{◌≡◌, Bool, List, Float, Result};
 ghost use Rattle.settings.specs.declared.Settings.{Settings};
 ghost use Rattle.constraint.specs.declared.Relation.{Relation};

@@ -25,6 +25,7 @@ use stack::Stack;
 use tree::EmlTree;
 
 // The tests of eval_real, and the node's tree.
+#[tactic(auto, using(tree::specs::NodeLaws::list_valid), unfolding(crate::specs::Answer::eval_refusal))]
 fn test_node<'a>(nodes: &'a [u8], k: usize, point: &[f64]) -> Result<EmlTree<'a>, Refusal>
     ensures refusal { refusal_of result ≡ eval_refusal nodes.now k point.now }
     ensures tree { IfOk result (λ t. the_tree t ≡ tree_at nodes.now k) }
@@ -44,6 +45,7 @@ fn test_node<'a>(nodes: &'a [u8], k: usize, point: &[f64]) -> Result<EmlTree<'a>
 }
 
 // The value of a node's tree at the point.
+#[tactic(auto, unfolding(crate::specs::Answer::eval_answer))]
 pub fn eval_real(
     nodes: &[u8],
     node: usize,
@@ -56,6 +58,7 @@ pub fn eval_real(
 }
 
 // The tests of records and of a point.
+#[tactic(auto, unfolding(crate::specs::Answer::point_refusal))]
 fn test_point<'a>(
     nodes: &'a [u8],
     constraints: &'a [u8],
@@ -79,6 +82,7 @@ fn answer<M: Measure>(nodes: &[u8], constraints: &[u8], point: &[f64]) -> Result
 }
 
 // Whether the point passes the check of the constraint.
+#[tactic(auto, unfolding(crate::specs::Answer::check_answer))]
 pub fn check_constraint(nodes: &[u8], constraints: &[u8], point: &[f64]) -> Result<bool, Refusal>
     ensures { numbered result ≡ check_answer usual nodes.now constraints.now point.now }
 {
@@ -86,6 +90,7 @@ pub fn check_constraint(nodes: &[u8], constraints: &[u8], point: &[f64]) -> Resu
 }
 
 // How far the point is from meeting the constraint.
+#[tactic(auto, unfolding(crate::specs::Answer::residual_answer))]
 pub fn residual(nodes: &[u8], constraints: &[u8], point: &[f64]) -> Result<f64, Refusal>
     ensures { numbered result ≡ residual_answer usual nodes.now constraints.now point.now }
 {

@@ -1,4 +1,6 @@
 // The residual's parts: an f64 is how far a point is from meeting a constraint.
+#![tactic(auto, unfolding(crate::specs::Residual::shortfall, crate::specs::Residual::residual_of_not, number::specs::Computing::computing))]
+
 ghost use Rattle.std.specs.Prelude.{◌≡◌};
 ghost use Rattle.point.specs.Residual.{shortfall, error_value, residual_of_not, residual};
 ghost use Rattle.point.specs.Measure.{residual_of_atom, residual_of_none, residual_with_one, residual_with_sample, never_settled};

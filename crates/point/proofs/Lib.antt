@@ -1,3 +1,0 @@
-mod Threshold
-mod Machine
-mod Answers
