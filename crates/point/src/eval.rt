@@ -89,23 +89,23 @@ fn variable(i: usize, point: &[f64]) -> Result<Complex, EvalError>
 }
 
 // An Eml of the two values on top of the stack, which are taken from it.
-fn reduce(settings: Settings, stack: &mut Stack) -> Result<Complex, EvalError>
-    ensures { pushed result stack.new ≡ reduced settings stack.old }
+fn reduce(settings: &Settings, stack: &mut Stack) -> Result<Complex, EvalError>
+    ensures { pushed result stack.new ≡ reduced settings.now stack.old }
 {
     let right = stack.pop().ok_or(EvalError::NanEncountered)?;
     let left = stack.pop().ok_or(EvalError::NanEncountered)?;
-    eml_complex(settings, left, right)
+    eml_complex(*settings, left, right)
 }
 
 #[tactic(auto, unfolding(crate::specs::Machine::step, number::specs::Computing::computing))]
 fn step(
     instruction: Instruction,
-    settings: Settings,
+    settings: &Settings,
     point: &[f64],
     stack: &mut Stack,
 ) -> Result<(), EvalError>
     requires { height (length stack.old) instruction ≤ 128 }
-    ensures { ran result stack.new ≡ stepped settings point.now instruction stack.old }
+    ensures { ran result stack.new ≡ stepped settings.now point.now instruction stack.old }
 {
     let value = match instruction {
         Instruction::PushOne => Ok(real(1.0)),
@@ -119,9 +119,14 @@ fn step(
 
 // The tree's instructions in postorder.
 #[tactic(auto, using(crate::specs::MachineLaws::run_means), unfolding(crate::specs::Eval::eval_complex, crate::specs::Machine::step, tree::specs::Tree::depth))]
-fn run(tree: EmlTree, settings: Settings, point: &[f64], stack: &mut Stack) -> Result<(), EvalError>
+fn run(
+    tree: EmlTree,
+    settings: &Settings,
+    point: &[f64],
+    stack: &mut Stack,
+) -> Result<(), EvalError>
     requires { length stack.old + depth (the_tree tree) ≤ 128 }
-    ensures { ran result stack.new ≡ running settings point.now (postorder (the_tree tree.entry)) stack.old }
+    ensures { ran result stack.new ≡ running settings.now point.now (postorder (the_tree tree.entry)) stack.old }
 {
     let instruction = match tree.node() {
         Node::One => Instruction::PushOne,
@@ -147,7 +152,7 @@ pub fn eval_complex(
     ensures { result ≡ eval_complex settings point.now (the_tree tree.entry) }
 {
     stack.clear();
-    run(tree, settings, point, stack)?;
+    run(tree, &settings, point, stack)?;
     stack.pop().ok_or(EvalError::NanEncountered)
 }
 
