@@ -123,7 +123,7 @@ pub enum Record {
     Exists(usize, f64, f64),
 }
 
-// Record k, read with no test.
+// Record k, read with no test: a number over 10 reads as Exists, which no record that passed has.
 #[tactic(auto, unfolding(crate::specs::Records::record_at, number::specs::Computing::computing))]
 pub fn record_in(constraints: &[u8], k: usize) -> Record
     requires { 24 * k + 24 ≤ length constraints.now }
@@ -192,6 +192,7 @@ pub fn taken_by(r: Record) -> usize
     }
 }
 
+// 1, but 0 of what is no quantifier.
 fn quantifier_of(r: Record) -> usize
     ensures { (result ≡ binds r) × (result ≤ 1) }
 {
@@ -253,7 +254,8 @@ fn words_of(r: Record) -> Words
     }
 }
 
-// Record number `at`; the answer is the number of the next.
+// Record number `at`; the answer is the number of the next. (A list and a number, and no writer that has both: it would be lent through each call
+// of the normal form with what it has written.)
 #[tactic(auto, using(crate::specs::PutLaws::puts_one, crate::proofs::Outcomes::record_words))]
 pub fn write_record(out: &mut [u8], at: usize, r: Record) -> usize
     requires { Writable 1024 r × (24 * (at + 1) ≤ length out.old) }

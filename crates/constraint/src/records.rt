@@ -12,7 +12,7 @@ use crate::{EmlConstraint, Record, is_ranged, is_record, quantifier_of, record_i
 use record::Refusal;
 use tree::EmlTree;
 
-// They stand over nodes that passed too, all of them; free places behind are not lent.
+// The first `count` records of `constraints` passed, over nodes that all passed; what follows them is no part.
 #[derive(Drop)]
 pub struct Records<'a> {
     pub nodes: &'a [u8],
@@ -22,7 +22,7 @@ pub struct Records<'a> {
     pub ghost some: { 0 < count },
 }
 
-// What a record finishes, from those that it takes: 7.
+// What a record finishes, from those that it takes; else 7.
 fn finish(r: Record, taken: &[Finished]) -> Result<Finished, Refusal>
     ensures refusal { refusal_of result ≡ 7 unless leb (1 + greatest (depths taken.now)) 16 && leb (binds r + greatest (quantified taken.now)) 4 }
     ensures depth { IfOk result (λ c. c.depth ≡ 1 + greatest (depths taken.now)) }

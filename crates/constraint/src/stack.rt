@@ -10,6 +10,7 @@ pub struct Finished {
     pub quantifiers: u8,
 }
 
+// An array and a height: no heap. Not one generic stack with point's: they share no method but `new`.
 #[derive(Drop)]
 pub struct Stack {
     items: [Finished; 256],

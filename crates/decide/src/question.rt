@@ -62,7 +62,8 @@ impl<'a> Question<'a> {
         ]
     }
 
-    // Whether the check passes at x. A stack for each sample: `find` takes a closure that leaves what it captures as it was.
+    // Whether the check passes at x. A stack for each sample: with one that the closure alters the proof did not close, since the law of `find`
+    // speaks of a closure that leaves what it captures as it was.
     fn passes(&self, x: f64) -> bool
         ensures { result ≡ passes_at self.now x }
     {

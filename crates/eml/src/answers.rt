@@ -1,7 +1,7 @@
 // How an answer goes to the caller's places. A refusal leaves them as they were.
 ghost use Rattle.std.specs.Prelude.{◌≡◌, ◌≤◌, length};
 ghost use Rattle.record.specs.Leaving.{◌leaving◌};
-ghost use Rattle.record.specs.Refused.{numbered};
+ghost use Rattle.record.specs.Refused.{numbered, refusal_of};
 ghost use Rattle.record.specs.Views.{old, final};
 ghost use Rattle.interval.specs.Views.{values_of};
 ghost use Rattle.eml.specs.Answers.{placed};
@@ -9,6 +9,16 @@ ghost use Rattle.eml.specs.Places.{with_point};
 
 use interval::Point;
 use record::Refusal;
+
+// The number of the refusal, or 0.
+pub fn refusal_number<T: Drop>(answer: Result<T, Refusal>) -> u8
+    ensures { result ≡ refusal_of answer }
+{
+    match answer {
+        Ok(_) => 0,
+        Err(refusal) => refusal.into(),
+    }
+}
 
 pub fn put<T: Copy>(answer: Result<T, Refusal>, place: &mut T) -> u8
     ensures { (result leaving final place) ≡ placed (numbered answer) (old place) }

@@ -9,17 +9,8 @@ ghost use Rattle.constraint.specs.declared.Relation.{Relation};
 ghost use Rattle.record.specs.Views.{old, final};
 ghost use Rattle.eml.specs.Answers.{appended};
 
+use crate::answers::refusal_number;
 use constraint::Relation;
-use record::Refusal;
-
-fn refusal_number(answer: Result<usize, Refusal>) -> u8
-    ensures { result ≡ refusal_of answer }
-{
-    match answer {
-        Ok(_) => 0,
-        Err(refusal) => refusal.into(),
-    }
-}
 
 pub fn eml_canonical_ln(nodes: &mut [u8], count: usize, x: usize) -> u8
     ensures { (result leaving final nodes) ≡ appended (Canonical.ln (old nodes) count x) }

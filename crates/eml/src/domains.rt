@@ -5,7 +5,7 @@ ghost use Rattle.record.specs.Leaving.{◌leaving◌};
 ghost use Rattle.record.specs.Views.{old, final};
 ghost use Rattle.eml.specs.Answers.{placed};
 
-use crate::answers::put;
+use crate::answers::{put, refusal_number};
 
 // The bounds of `num_vars` variables, [-10, 10] for a missing one, to the first places of `out_lo` and `out_hi`.
 pub fn eml_domain_new(
@@ -17,10 +17,7 @@ pub fn eml_domain_new(
 ) -> u8
     ensures { (result leaving (final out_lo, final out_hi)) ≡ domain_new lo.now hi.now num_vars (old out_lo) (old out_hi) }
 {
-    match interval::domain_new(lo, hi, num_vars, out_lo, out_hi) {
-        Ok(()) => 0,
-        Err(refusal) => refusal.into(),
-    }
+    refusal_number(interval::domain_new(lo, hi, num_vars, out_lo, out_hi))
 }
 
 // Whether any interval is empty, to `out`. The ends may be any f64.

@@ -7,26 +7,20 @@ ghost use Rattle.file.specs.File.{refusal, given_refusal, read_file, read_given}
 ghost use Rattle.record.specs.Views.{old, final};
 ghost use Rattle.eml.specs.Answers.{placed};
 
-use crate::answers::put;
+use crate::answers::{put, refusal_number};
 
 // The refusal of a file, or 0.
 pub fn eml_read(bytes: &[u8]) -> u8
     ensures { result ≡ refusal bytes.now }
 {
-    match file::read(bytes) {
-        Ok(_) => 0,
-        Err(refusal) => refusal.into(),
-    }
+    refusal_number(file::read(bytes))
 }
 
 // The refusal of records, or 0.
 pub fn eml_read_records(nodes: &[u8], constraints: &[u8]) -> u8
     ensures { result ≡ given_refusal nodes.now constraints.now }
 {
-    match file::read_given(nodes, constraints) {
-        Ok(_) => 0,
-        Err(refusal) => refusal.into(),
-    }
+    refusal_number(file::read_given(nodes, constraints))
 }
 
 // The number of variables of a file's constraint, to `out`.

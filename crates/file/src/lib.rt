@@ -138,7 +138,7 @@ fn bound_in(bounds: &[u8], k: usize) -> Interval
     )
 }
 
-// ---- the bodies
+// ---- the tests of the bodies
 
 // The tests of each of the bounds: 6; and the boxes that they are.
 #[tactic(auto, using(crate::proofs::Parts::bound_tests), unfolding(crate::specs::File::bound_refusal, crate::specs::File::bounds, record::specs::Refusal::first))]
@@ -174,6 +174,7 @@ fn read_records<'a>(nodes: &'a [u8], constraints: &'a [u8]) -> Result<Records<'a
 
 // ---- what other crates call
 
+// The tests of a file, and what it says.
 #[tactic(auto, using(crate::proofs::Parts::file_tests))]
 pub fn read(file: &[u8]) -> Result<Problem<'_>, Refusal>
     ensures refusal { refusal_of result ≡ refusal file.now }
@@ -201,7 +202,7 @@ pub fn read_given<'a>(nodes: &'a [u8], constraints: &'a [u8]) -> Result<Records<
     Err(Refusal::Counts)
 }
 
-// The number of variables of a file's constraint.
+// The number of variables of a file's constraint. (This and the next are two calls of C, each its reading and the count.)
 #[tactic(auto, using(crate::specs::FileLaws::file_refused, record::specs::RefusalLaws::never_none))]
 pub fn num_vars(file: &[u8]) -> Result<u64, Refusal>
     ensures { numbered result ≡ answered num_vars (read_file file.now) }

@@ -9,7 +9,7 @@ use super::count::Count;
 use super::point::Point;
 use record::Refusal;
 
-// That of a variable beyond the list.
+// The box of a variable beyond the list.
 pub const MISSING: Interval = Interval {
     lo: -10.0,
     hi: 10.0,
@@ -31,7 +31,8 @@ pub fn all_sound(boxes: &[Interval]) -> bool
     boxes.iter().all(|b| b.is_sound())
 }
 
-// At most 16 boxes by value: the first `count` of the list.
+// At most 16 boxes by value: the first `count` of the list. (An array and a count: no heap. Not one generic list for boxes and values: the
+// places past a point's values are 0, which `table` reads.)
 #[derive(Clone, Copy)]
 pub struct Domain {
     pub boxes: [Interval; 16],
@@ -41,7 +42,7 @@ pub struct Domain {
 impl Domain {
     ghost use Rattle.interval.specs.Views.{intervals_of, values_of};
 
-    // The first of the bounds, as many as that, a missing one being [-10, 10].
+    // `count` boxes: the first of the bounds, [-10, 10] for a missing one.
     #[tactic(auto, using(crate::proofs::Loops::started_16), unfolding(crate::specs::Boxes::missing, number::specs::Computing::computing))]
     pub fn new(bounds: &[Interval], count: Count) -> Domain
         ensures { (result.count.n ≡ count.n) × (intervals_of result ≡ starting count.n bounds.now) }
@@ -52,7 +53,7 @@ impl Domain {
         Domain { boxes, count }
     }
 
-    // As many boxes, each the same.
+    // `count` boxes, each v.
     #[tactic(auto, using(crate::proofs::Loops::places))]
     pub fn filled(v: Interval, count: Count) -> Domain
         ensures { (result.count.n ≡ count.n) × (intervals_of result ≡ replicate count.n v) }
@@ -95,7 +96,7 @@ impl Domain {
         &self.boxes[..self.count.n]
     }
 
-    // The first of these bounds.
+    // `count` boxes, begun with these.
     pub fn starting(&self, count: Count) -> Domain
         ensures { (result.count.n ≡ count.n) × (intervals_of result ≡ starting count.n (intervals_of self.now)) }
     {
@@ -125,7 +126,8 @@ impl Domain {
         self.as_slice().iter().all(|b| b.width() < tolerance)
     }
 
-    // The number of the last widest box, and 0 where there is none.
+    // The number of the last widest box, and 0 where there is none. (A loop, which takes each width once: `max_by` compares by a closure, which
+    // has to say what a NaN is.)
     #[tactic(auto, using(crate::proofs::Loops::shorter), unfolding(crate::specs::Boxes::widest_from, crate::specs::Boxes::widest, number::specs::Computing::computing))]
     pub fn widest(&self) -> usize
         ensures value { result ≡ widest (intervals_of self.now) }

@@ -8,7 +8,7 @@ ghost use Rattle.interval.specs.Boxes.{padded};
 use super::count::Count;
 use record::Refusal;
 
-// At most 16 values: the first `count` of the list. The other places are 0.
+// At most 16 values: the first `count` of the list. The other places are 0. (An array and a count: no heap.)
 #[derive(Clone, Copy)]
 pub struct Point {
     pub values: [f64; 16],

@@ -1,4 +1,5 @@
-// `propagate` on the caller's own list of intervals (document 01, "Forms of the Rust to recast"): the tests, and then the narrowing, in place.
+// `propagate` on the caller's own list of intervals (document 01, "Forms of the Rust to recast"): the tests, and then the narrowing. The list is copied
+// to a `Domain`, narrowed there and copied back.
 #![tactic(auto, using(narrow::specs::GivenLaws::refusals), unfolding(crate::specs::Lent::propagate_lent))]
 
 ghost use Rattle.std.specs.Prelude.{◌≡◌};

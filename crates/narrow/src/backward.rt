@@ -102,7 +102,7 @@ pub fn backward_propagate(
     }
 }
 
-// What an Eml of two trees asks of them. Right is asked what was computed before left wrote, also after left's Conflict.
+// Passes on what an Eml asks of its children. Right is asked what was computed before left wrote, also after left's Conflict.
 #[cycle(backward)]
 pub fn backward_both(
     left: EmlTree,

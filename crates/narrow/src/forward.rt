@@ -55,7 +55,7 @@ pub struct Children {
     pub ln_right: Interval,
 }
 
-// Those of an Eml of two trees, or what it answers at once.
+// Those of an Eml of two trees, or what it answers at once: an `Err` is such an answer and no failure, and `?` hands it on.
 pub fn eml_children(
     left: EmlTree,
     right: EmlTree,

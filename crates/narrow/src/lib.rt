@@ -1,5 +1,5 @@
 // Narrowing (document 01; interval.rs): a constraint tightens the boxes of its variables, or finds that nothing in them meets it. The
-// boxes are a lent list of intervals.
+// boxes are a `Domain`; inside an atom, a lent list of them.
 #![tactic(auto)]
 
 mod atom; // one atom

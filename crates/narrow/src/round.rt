@@ -124,6 +124,7 @@ pub struct Propagator {
     pub mode: Mode,
 }
 
+// Each says that the count stays: it is a field, which `intervals_of` does not name.
 impl Propagator {
     fn narrow_atom(self, relation: Relation, tree: EmlTree, domain: &mut Domain) -> PropResult
         ensures count { domain.new.count.n ≡ domain.old.count.n }

@@ -27,7 +27,8 @@ impl fmt::Display for Stop {
     }
 }
 
-// Both carry the count of halvings. An assignment has its point and exactness, any other answer its residual.
+// Both carry the count of halvings. An assignment has its point and exactness, any other answer its residual. (No `Result`: every stop word is
+// an answer.)
 #[derive(Clone, Copy)]
 pub enum Solved {
     Assignment {
@@ -46,7 +47,7 @@ impl Solved {
     ghost use Rattle.nra.specs.Answers.{answer_of, stop_number};
     ghost use Rattle.nra.specs.Solver.{untried};
 
-    // The stop word by its number.
+    // The stop word by its number. (No `From`: the number is of a part.)
     pub fn stop_number(&self) -> u8
         ensures { result ≡ stop_number (answer_of self.now) }
     {

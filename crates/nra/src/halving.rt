@@ -9,7 +9,8 @@ use point::stack::Stack;
 use record::Refusal;
 use settings::Settings;
 
-// What stays the same in a run: the records, of which the last one's constraint is to be met.
+// What stays the same in a run: the records, whose constraint is to be met, the settings, the limit, the tolerance. The stack that the checks are
+// lent is no part of it: a task is only read.
 #[derive(Drop)]
 pub struct Task<'a> {
     pub records: Records<'a>,

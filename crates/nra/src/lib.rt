@@ -45,7 +45,7 @@ fn solve_empty(task: &Task, stack: &mut Stack) -> Solved
     }
 }
 
-// In these bounds, of as many variables.
+// In these bounds. `count` is the number of variables.
 #[tactic(auto, using(crate::proofs::Answering::solving))]
 fn solve_in(task: &Task, bounds: &Domain, count: Count, stack: &mut Stack) -> Solved
     requires { count.n ≡ num_vars (the_constraint task.now.records) }

@@ -12,6 +12,7 @@ use maths::Complex;
 use settings::Settings;
 use tree::{EmlTree, Node};
 
+// As document 01 asks ("an instruction that pushes a constant carries it as a float").
 #[derive(Clone, Copy)]
 pub enum Instruction {
     PushOne,
@@ -88,6 +89,8 @@ fn variable(i: usize, point: &[f64]) -> Result<Complex, EvalError>
     Ok(real(point[i]))
 }
 
+// ---- settings, a point and a stack side by side: a quantifier alters the point alone, and only the stack is written
+
 // An Eml of the two values on top of the stack, which are taken from it.
 fn reduce(settings: &Settings, stack: &mut Stack) -> Result<Complex, EvalError>
     ensures { pushed result stack.new ≡ reduced settings.now stack.old }
@@ -117,7 +120,7 @@ fn step(
     Ok(())
 }
 
-// The tree's instructions in postorder.
+// Runs the tree's instructions in postorder.
 #[tactic(auto, using(crate::specs::MachineLaws::run_means), unfolding(crate::specs::Eval::eval_complex, crate::specs::Machine::step, tree::specs::Tree::depth))]
 fn run(
     tree: EmlTree,

@@ -1,4 +1,4 @@
-// A point against a constraint (helpers.rs): the check and the residual, by one recursion over the constraint's records.
+// A point against a constraint (helpers.rs): the check and the residual, by one recursion over the constraint.
 #![tactic(auto, unfolding(constraint::specs::Records::gather, number::specs::Computing::computing))]
 
 ghost use Rattle.std.specs.Prelude.{◌≡◌, Bool, List, Float, Result};
@@ -120,7 +120,7 @@ fn measured_each<M: Measure>(
     before.one_more(each, measured(last, settings, point, stack))
 }
 
-// Of a constraint with variable v at each of a quantifier's samples, likewise.
+// Of a constraint with variable v at each of a quantifier's samples, likewise. v, lo and hi as the Rust's ForAll and Exists hold them.
 #[cycle(measured)]
 fn measured_samples<M: Measure>(
     c: EmlConstraint,

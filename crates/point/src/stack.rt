@@ -6,6 +6,7 @@ ghost use Rattle.point.specs.Machine.{popped};
 use maths::Complex;
 use std::marker::Model;
 
+// An array and a height: no heap. Not one generic stack with constraint's: they share no method but `new`.
 #[derive(Drop)]
 pub struct Stack {
     places: [Complex; 128],

@@ -41,7 +41,7 @@ fn is_finite(bits: u64) -> bool
 }
 
 // The numbers at 8 and at 4 of a node's record are below these. A choice of two numbers, and no `match`, since kinds come in any order and
-// the processor would guess the arm wrong.
+// the processor would guess the arm wrong: with one a list's tests were measured slower.
 fn right_end(kind: u32, k: usize) -> usize
     ensures { result ≡ right_end kind k }
 {
@@ -105,7 +105,7 @@ struct Extent {
     depth: usize,
 }
 
-// An accepted tree's, in four bytes: each call clears a list of them.
+// An accepted tree's, in four bytes: each call clears a list of them. (Not one type by its numbers: a sum of two sizes needs the wide one.)
 #[derive(Clone, Copy)]
 struct SmallExtent {
     size: u16,
@@ -142,7 +142,7 @@ impl Extent {
         }
     }
 
-    // 4, as document 01 bounds a tree.
+    // 4, as document 01 bounds a tree. (No `TryFrom`: the name says whose bounds.)
     fn accept(self) -> Result<SmallExtent, Refusal>
         ensures refusal { refusal_of result ≡ (4 unless small_extent self) }
         ensures value { IfOk result (λ e. (e.size ≡ self.size) × (e.depth ≡ self.depth)) }
@@ -329,6 +329,8 @@ pub fn test_sub(nodes: &[u8], count: usize, x: usize, y: usize) -> Result<(), Re
     test_result(nodes.len(), count, 7, a.sub(b))
 }
 
+// Of the two kinds that are written, 0 One and 3 Eml. By bytes and a number, as all that reads and writes here: a slice of each record cost
+// more than `read_u32`, which says how much.
 #[tactic(auto, using(record::specs::ByteLaws::four_words))]
 fn write_record(nodes: &mut [u8], k: usize, kind: u32, left: u32, right: u32)
     requires { 16 * k + 16 ≤ length nodes.old }
