@@ -62,7 +62,7 @@ impl<'a> Question<'a> {
         ]
     }
 
-    // Whether the check passes at x.
+    // Whether the check passes at x. A stack for each sample: `find` takes a closure that leaves what it captures as it was.
     fn passes(&self, x: f64) -> bool
         ensures { result ≡ passes_at self.now x }
     {

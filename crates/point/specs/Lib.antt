@@ -1,5 +1,6 @@
 pub mod Eval
 pub mod Machine
+pub mod MachineLaws
 pub mod Check
 pub mod Residual
 pub mod Measure

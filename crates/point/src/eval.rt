@@ -2,7 +2,7 @@
 ghost use Rattle.std.specs.Prelude.{◌≡◌, ◌≤◌, ◌+◌, length};
 ghost use Rattle.tree.specs.Tree.{depth};
 ghost use Rattle.point.specs.Eval.{real as real_of, clamped, beyond, eml_complex, variable as variable_of, eval_complex, real_part, eval_real};
-ghost use Rattle.point.specs.Machine.{height, reduced, step as stepped, pushed, ran};
+ghost use Rattle.point.specs.Machine.{postorder, pushed, reduced, step as stepped, run as running, height, ran};
 ghost use Rattle.tree.specs.Views.{the_tree};
 
 use super::stack::Stack;
@@ -114,10 +114,10 @@ fn step(
     Ok(())
 }
 
-// The tree's instructions in postorder: its value comes on top of the stack.
+// The tree's instructions in postorder.
 fn run(tree: EmlTree, settings: Settings, point: &[f64], stack: &mut Stack) -> Result<(), EvalError>
     requires { length stack.old + depth (the_tree tree) ≤ 128 }
-    ensures { ran result stack.new ≡ pushed (eval_complex settings point.now (the_tree tree.entry)) stack.old }
+    ensures { ran result stack.new ≡ running settings point.now (postorder (the_tree tree.entry)) stack.old }
 {
     let instruction = match tree.node() {
         Node::One => Instruction::PushOne,
@@ -133,6 +133,7 @@ fn run(tree: EmlTree, settings: Settings, point: &[f64], stack: &mut Stack) -> R
 }
 
 // The stack is lent, so that it is made once for many evaluations.
+#[tactic(auto, using(crate::specs::MachineLaws::run_means))]
 pub fn eval_complex(
     tree: EmlTree,
     settings: Settings,

@@ -1,10 +1,9 @@
--- `constraint::records::Records::constraint` meets its contract: one constraint is left. Assumes nothing.
+-- `constraint::records::Records::constraint` meets its contract: there is one. Assumes nothing.
 use native.Mathlib.Omega.{arith}
-use Rattle.constraint.specs.RecordLaws.{one_left}
 use Rattle.constraint.proofs.records.Records.constraint.Goals as goal
 
 pub overflow_sub-result : goal.overflow_sub-result
-overflow_sub-result c = omega (arith, one_left c.args.self.now)
+overflow_sub-result c = omega (arith, c.args.self.now.some)
 
 pub invariant_of-result : goal.invariant_of-result
-invariant_of-result c = record { inside = omega (arith, one_left c.args.self.now) }
+invariant_of-result c = record { inside = omega (arith, c.args.self.now.some) }

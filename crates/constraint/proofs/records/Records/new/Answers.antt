@@ -5,6 +5,7 @@ use native.Mathlib.Omega.{arith}
 use lib.ListN.{length, length-append, length-take}
 use Rattle.std.proofs.lemmas.Result.{err_from_is_err_and}
 use Rattle.record.specs.declared.refusal.Refusal.{Refusal}
+use Rattle.constraint.specs.RecordLaws.{ready, only_left}
 use Rattle.constraint.proofs.Testing.{none_stacked, five_record, five_few, six, seven, stacked, stop, one_stays, not_one}
 use Rattle.constraint.proofs.records.Records.new.Goals as goal
 
@@ -59,12 +60,14 @@ pub returns-then-height-ne1-clause-refusal : goal.returns-then-height-ne1-clause
 returns-then-height-ne1-clause-refusal c =
     not_one _ _ _ _ _ c.loop-k.invariant.stacked (le_antisymm c.loop-k.auto.k-end c.loop-k-test.false) (λ e. c.if-height-ne1.true (c.height-2.ensures ∙ e))
 
+pub returns-clause-refusal : goal.returns-clause-refusal
+returns-clause-refusal c =
+    sym (one_stays _ _ _ _ _ c.loop-k.invariant.stacked (le_antisymm c.loop-k.auto.k-end c.loop-k-test.false) (sym c.height-2.ensures ∙ c.if-height-ne1.false))
+
 pub invariant_of-result : goal.invariant_of-result
-invariant_of-result c = record {
-  ready = record {
-    valid = c.requires.nodes;
-    few = c.requires.few;
-    there = omega arith;
-    accepted = one_stays _ _ _ _ _ c.loop-k.invariant.stacked (le_antisymm c.loop-k.auto.k-end c.loop-k-test.false) (sym c.height-2.ensures ∙ c.if-height-ne1.false);
-  };
-}
+invariant_of-result c =
+    let e = one_stays _ _ _ _ _ c.loop-k.invariant.stacked (le_antisymm c.loop-k.auto.k-end c.loop-k-test.false) (sym c.height-2.ensures ∙ c.if-height-ne1.false) in
+    record {
+      ready = ready _ _ _ e c.requires.nodes c.requires.few (omega arith);
+      some = (only_left _ _ _ e).0;
+    }
