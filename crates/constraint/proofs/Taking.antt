@@ -5,6 +5,8 @@ use mathlib.Core.List.{List, [], ◌∷◌}
 use native.Mathlib.Omega.{arith}
 use lib.Ieee.{Float}
 use lib.ListN.{length, length-append}
+use lib.Seq.{length-take-le}
+use Rattle.std.proofs.lemmas.List.{drop-take}
 use Rattle.constraint.specs.Records.{finished, formula_at}
 use Rattle.constraint.specs.Starts.{start_at}
 use Rattle.constraint.specs.StartLaws.{chain, start_below, height_below}
@@ -32,3 +34,6 @@ module _ (r : Records) (k : ℕ) (l : k < r.count) where
   named_forall v lo hi e = (named r k l (Record.ForAll v lo hi) e, omega (arith, (inside r k l (Record.ForAll v lo hi) e refl).0))
 
 pub ruleset shapes = (inside, not_inside, named_forall, named_exists, atom_node, at_atom, at_not, at_and, and_taken, at_or, or_taken, at_forall, at_exists)
+
+-- a part of a list
+pub ruleset parts = (length-take-le, drop-take)
