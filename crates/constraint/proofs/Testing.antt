@@ -97,83 +97,83 @@ module _ (n : ℕ) (b : List ℕ) (k : ℕ) (s : List Finished) (p : Stacked n b
   pub height : length (finished b k) ≡ length s
   height = sym (length-map (finished b k) levels) ∙ ap length (sym p.depths_are) ∙ length-map s (λ (c : Finished). c.depth)
 
-  -- the tests, in order
-  pub five_record : is_record n b k ≡ false → record_refusal n b k ≡ 5
-  unfolding record_refusal
-  five_record e = simp e
+  -- the tests of m records, in order: record k is refused
+  module _ (m : ℕ) (l : k < m) where
+    refused : (x : ℕ) → (x ≡ 0 → ⊥) → x ≡ record_refusal n b k → x ≡ records_refusal n b m
+    unfolding records_refusal
+    refused zero h e = absurd (h refl)
+    refused (suc x) h e = sym (ap (λ (y : ℕ). y or_else 7 unless eqb (length (finished b m)) 1) (first_here (record_refusal n b) x k p.none_yet (sym e) m l))
+
+    pub stop : (r : Refusal) → number_of r ≡ record_refusal n b k → number_of r ≡ records_refusal n b m
+    stop r e = refused (number_of r) (never_none r) e
+
+    pub five_record : is_record n b k ≡ false → 5 ≡ records_refusal n b m
+    unfolding record_refusal
+    five_record e = stop Refusal.Constraint (simp e)
+
+    module _ (is : is_record n b k ≡ true) where
+      pub five_few : length s < takes (record_at b k) → 5 ≡ records_refusal n b m
+      unfolding record_refusal
+      five_few h = stop Refusal.Constraint (simp (is, height, lt-leb _ _ h))
+
+      pub six : takes (record_at b k) ≤ length s → is_ranged (record_at b k) ≡ false → 6 ≡ records_refusal n b m
+      unfolding record_refusal
+      six h e = stop Refusal.Range (simp (is, height, le-leb _ _ h, e))
 
   -- record k is x, and takes m
-  module _ (is : is_record n b k ≡ true) (x : Record) (ix : x ≡ record_at b k) (m : ℕ) (im : m ≡ takes x) where
-    pub five_few : length s < m → record_refusal n b k ≡ 5
-    unfolding record_refusal
-    five_few l = simp (is, height, sym ix, sym im, lt-leb _ _ l)
+  module _ (is : is_record n b k ≡ true) (x : Record) (ix : x ≡ record_at b k) (m : ℕ) (im : m ≡ takes x) (enough : m ≤ length s) where
+    -- what is taken and what is left
+    base_is : length (finished b k) - takes (record_at b k) ≡ length s - m
+    base_is = ap₂ (λ (u w : ℕ). u - w) height (sym (im ∙ ap takes ix))
 
-    module _ (enough : m ≤ length s) where
-      pub six : is_ranged x ≡ false → record_refusal n b k ≡ 6
-      unfolding record_refusal
-      six e = simp (is, height, sym ix, sym im, le-leb _ _ enough, e)
+    new_is : formula_at b k ≡ finish x (drop (length s - m) (finished b k))
+    unfolding formula_at
+    new_is = ap₂ (λ (y : Record) (i : ℕ). finish y (drop i (finished b k))) (sym ix) base_is
 
-      -- what is taken and what is left
-      base_is : length (finished b k) - takes (record_at b k) ≡ length s - m
-      base_is = ap₂ (λ (u w : ℕ). u - w) height (sym (im ∙ ap takes ix))
+    next_is : finished b (k + 1) ≡ take (length s - m) (finished b k) ++ formula_at b k ∷ []
+    unfolding finished formula_at
+    next_is = ap (finished b) (add-one k) ∙ ap (λ (i : ℕ). take i (finished b k) ++ formula_at b k ∷ []) base_is
 
-      new_is : formula_at b k ≡ finish x (drop (length s - m) (finished b k))
-      unfolding formula_at
-      new_is = ap₂ (λ (y : Record) (i : ℕ). finish y (drop i (finished b k))) (sym ix) base_is
+    taken_length : length (drop (length s - m) (finished b k)) ≡ takes x
+    taken_length = length-drop (length s - m) (finished b k) ∙ omega (arith, height)
 
-      next_is : finished b (k + 1) ≡ take (length s - m) (finished b k) ++ formula_at b k ∷ []
-      unfolding finished formula_at
-      next_is = ap (finished b) (add-one k) ∙ ap (λ (i : ℕ). take i (finished b k) ++ formula_at b k ∷ []) base_is
+    mapped : (g : Finished → ℕ) (f : Formula ℕ → ℕ) → map g s ≡ map f (finished b k) →
+        map g (drop (length s - m) s) ≡ map f (drop (length s - m) (finished b k))
+    mapped g f e = sym (drop-map g (length s - m) s) ∙ ap (drop (length s - m)) e ∙ drop-map f (length s - m) (finished b k)
 
-      taken_length : length (drop (length s - m) (finished b k)) ≡ takes x
-      taken_length = length-drop (length s - m) (finished b k) ∙ omega (arith, height)
+    -- those that are taken
+    module _ (cs : List Finished) (ec : cs ≡ drop (length s - m) s) where
+      told : (g : Finished → ℕ) (f : Formula ℕ → ℕ) → map g s ≡ map f (finished b k) → map g cs ≡ map f (drop (length s - m) (finished b k))
+      told g f e = ap (map g) ec ∙ mapped g f e
 
-      mapped : (g : Finished → ℕ) (f : Formula ℕ → ℕ) → map g s ≡ map f (finished b k) →
-          map g (drop (length s - m) s) ≡ map f (drop (length s - m) (finished b k))
-      mapped g f e = sym (drop-map g (length s - m) s) ∙ ap (drop (length s - m)) e ∙ drop-map f (length s - m) (finished b k)
+      depth_told : 1 + greatest (depths cs) ≡ levels (formula_at b k)
+      depth_told = ap (λ (l : List ℕ). 1 + greatest l) (told (λ c. c.depth) levels p.depths_are) ∙ sym (ap levels new_is ∙ levels_is x _ taken_length)
 
-      -- those that are taken
-      module _ (cs : List Finished) (ec : cs ≡ drop (length s - m) s) where
-        told : (g : Finished → ℕ) (f : Formula ℕ → ℕ) → map g s ≡ map f (finished b k) → map g cs ≡ map f (drop (length s - m) (finished b k))
-        told g f e = ap (map g) ec ∙ mapped g f e
+      quantifiers_told : binds x + greatest (quantified cs) ≡ quantifiers (formula_at b k)
+      quantifiers_told = ap (λ (l : List ℕ). binds x + greatest l) (told (λ c. c.quantifiers) quantifiers p.quantified_are) ∙ sym (ap quantifiers new_is ∙ quantifiers_is x _ taken_length)
 
-        depth_told : 1 + greatest (depths cs) ≡ levels (formula_at b k)
-        depth_told = ap (λ (l : List ℕ). 1 + greatest l) (told (λ c. c.depth) levels p.depths_are) ∙ sym (ap levels new_is ∙ levels_is x _ taken_length)
+      module _ (ranged : is_ranged x ≡ true) where
+        pub seven : record_refusal n b k ≡ Within (1 + greatest (depths cs)) (binds x + greatest (quantified cs))
+        unfolding record_refusal
+        seven = simp (is, height, sym ix, sym im, le-leb _ _ enough, ranged, depth_told, quantifiers_told)
 
-        quantifiers_told : binds x + greatest (quantified cs) ≡ quantifiers (formula_at b k)
-        quantifiers_told = ap (λ (l : List ℕ). binds x + greatest l) (told (λ c. c.quantifiers) quantifiers p.quantified_are) ∙ sym (ap quantifiers new_is ∙ quantifiers_is x _ taken_length)
+        -- it passes, and is finished
+        snoc : (g : Finished → ℕ) (f : Formula ℕ → ℕ) (c : Finished) → map g s ≡ map f (finished b k) → g c ≡ f (formula_at b k) →
+            map g (take (length s - m) s ++ c ∷ []) ≡ map f (finished b (k + 1))
+        snoc g f c e h =
+            map-append g (take (length s - m) s) (c ∷ [])
+            ∙ ap₂ (λ (l : List ℕ) (i : ℕ). l ++ i ∷ []) (sym (take-map g (length s - m) s) ∙ ap (take (length s - m)) e ∙ take-map f (length s - m) (finished b k)) h
+            ∙ sym (ap (map f) next_is ∙ map-append f (take (length s - m) (finished b k)) (formula_at b k ∷ []))
 
-        module _ (ranged : is_ranged x ≡ true) where
-          pub seven : record_refusal n b k ≡ Within (1 + greatest (depths cs)) (binds x + greatest (quantified cs))
-          unfolding record_refusal
-          seven = simp (is, height, sym ix, sym im, le-leb _ _ enough, ranged, depth_told, quantifiers_told)
-
-          -- it passes, and is finished
-          snoc : (g : Finished → ℕ) (f : Formula ℕ → ℕ) (c : Finished) → map g s ≡ map f (finished b k) → g c ≡ f (formula_at b k) →
-              map g (take (length s - m) s ++ c ∷ []) ≡ map f (finished b (k + 1))
-          snoc g f c e h =
-              map-append g (take (length s - m) s) (c ∷ [])
-              ∙ ap₂ (λ (l : List ℕ) (i : ℕ). l ++ i ∷ []) (sym (take-map g (length s - m) s) ∙ ap (take (length s - m)) e ∙ take-map f (length s - m) (finished b k)) h
-              ∙ sym (ap (map f) next_is ∙ map-append f (take (length s - m) (finished b k)) (formula_at b k ∷ []))
-
-          pub stacked : (c : Finished) → 0 ≡ Within (1 + greatest (depths cs)) (binds x + greatest (quantified cs)) → c.depth ≡ 1 + greatest (depths cs) →
-              c.quantifiers ≡ binds x + greatest (quantified cs) → Stacked n b (k + 1) (take (length s - m) s ++ c ∷ [])
-          stacked c z d q = record {
-            none_yet = none_more (record_refusal n b) k p.none_yet (seven ∙ sym z);
-            depths_are = snoc (λ c. c.depth) levels c p.depths_are (d ∙ depth_told);
-            quantified_are = snoc (λ c. c.quantifiers) quantifiers c p.quantified_are (q ∙ quantifiers_told);
-          }
+        pub stacked : (c : Finished) → 0 ≡ Within (1 + greatest (depths cs)) (binds x + greatest (quantified cs)) → c.depth ≡ 1 + greatest (depths cs) →
+            c.quantifiers ≡ binds x + greatest (quantified cs) → Stacked n b (k + 1) (take (length s - m) s ++ c ∷ [])
+        stacked c z d q = record {
+          none_yet = none_more (record_refusal n b) k p.none_yet (seven ∙ sym z);
+          depths_are = snoc (λ c. c.depth) levels c p.depths_are (d ∙ depth_told);
+          quantified_are = snoc (λ c. c.quantifiers) quantifiers c p.quantified_are (q ∙ quantifiers_told);
+        }
 
 -- ---- the answer
--- record k is refused
-pub stop : (n : ℕ) (b : List ℕ) (m k : ℕ) (s : List Finished) → Stacked n b k s → (r : Refusal) → k < m → number_of r ≡ record_refusal n b k → number_of r ≡ records_refusal n b m
-unfolding records_refusal
-stop n b m k s p r l e = go (number_of r) (never_none r) e
-  where
-    go : (x : ℕ) → (x ≡ 0 → ⊥) → x ≡ record_refusal n b k → x ≡ records_refusal n b m
-    go zero h e = absurd (h refl)
-    go (suc x) h e = sym (ap (λ (y : ℕ). y or_else 7 unless eqb (length (finished b m)) 1) (first_here (record_refusal n b) x k p.none_yet (sym e) m l))
-
 -- all passed
 module _ (n : ℕ) (b : List ℕ) (m k : ℕ) (s : List Finished) (p : Stacked n b k s) (is : k ≡ m) where
   at_end : Stacked n b m s
@@ -186,3 +186,5 @@ module _ (n : ℕ) (b : List ℕ) (m k : ℕ) (s : List Finished) (p : Stacked n
   pub not_one : (length s ≡ 1 → ⊥) → 7 ≡ records_refusal n b m
   unfolding records_refusal
   not_one e = simp (at_end.none_yet, height n b m s at_end, ne_eqb _ _ e)
+
+pub ruleset records_tests = (none_stacked, five_record, five_few, six, seven, stacked, stop, one_stays, not_one)
