@@ -84,6 +84,7 @@ impl<'a> EmlConstraint<'a> {
     }
 
     // Its first record: that of the oldest that it takes, or its own.
+    #[tactic(auto, using(crate::proofs::Taking::starts))]
     pub fn start(self) -> usize
         ensures { result ≡ start_at self.entry.records.now.constraints.now self.entry.root }
     {
