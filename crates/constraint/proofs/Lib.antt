@@ -1,4 +1,3 @@
 pub mod Testing
-pub mod Read
 pub mod Outcomes
 pub mod Taking

@@ -9,7 +9,7 @@ use Rattle.std.proofs.lemmas.List.{length-map, take-map, drop-map}
 use native.Mathlib.Omega.{arith}
 use borrow.Author.Tests.{le-leb, lt-leb, eq-eqb, ne_eqb}
 use lib.Dec.{eqb, leb}
-use lib.ListN.{length, get_or, take, drop, length-drop}
+use lib.ListN.{length, get_or, take, drop, length-drop, length-append, length-take}
 use Rattle.record.specs.Refusal.{◌or_else◌, ◌unless◌, first}
 use Rattle.record.specs.Refused.{number_of}
 use Rattle.record.specs.RefusalLaws.{none_more, first_here, never_none}
@@ -84,105 +84,101 @@ pub shallow : (d q : ℕ) → d ≤ 16 → q ≤ 4 → 0 ≡ Within d q
 shallow d q l h = rw (le-leb d 16 l, le-leb q 4 h)
 
 -- ---- before record k: none was refused, and the stack has what is kept of each finished constraint
-pub record Stacked (n : ℕ) (b : List ℕ) (k : ℕ) (s : List Finished) : Type 0 where
-  pub none_yet : first (record_refusal n b) k ≡ 0
-  pub depths_are : depths s ≡ map levels (finished b k)
-  pub quantified_are : quantified s ≡ map quantifiers (finished b k)
+pub none_yet : (n : ℕ) (b : List ℕ) → first (record_refusal n b) 0 ≡ 0
+unfolding first
+none_yet n b = refl
 
-pub none_stacked : (n : ℕ) (b : List ℕ) {s : List Finished} → s ≡ [] → Stacked n b 0 s
-unfolding first finished
-none_stacked n b e = rw e (record { none_yet = refl; depths_are = refl; quantified_are = refl })
+pub none_finished : (f : Formula ℕ → ℕ) (b : List ℕ) → map f (finished b 0) ≡ []
+unfolding finished
+none_finished f b = refl
 
-module _ (n : ℕ) (b : List ℕ) (k : ℕ) (s : List Finished) (p : Stacked n b k s) where
+module _ (n : ℕ) (b : List ℕ) (k : ℕ) (s : List Finished) (none_refused : first (record_refusal n b) k ≡ 0)
+    (depths_are : depths s ≡ map levels (finished b k)) (quantified_are : quantified s ≡ map quantifiers (finished b k)) where
   pub height : length (finished b k) ≡ length s
-  height = sym (length-map (finished b k) levels) ∙ ap length (sym p.depths_are) ∙ length-map s (λ (c : Finished). c.depth)
+  height = sym (length-map (finished b k) levels) ∙ ap length (sym depths_are) ∙ length-map s (λ (c : Finished). c.depth)
 
-  -- the tests, in order
-  pub five_record : is_record n b k ≡ false → record_refusal n b k ≡ 5
-  unfolding record_refusal
-  five_record e = simp e
+  -- the records before k are all
+  pub one_stays : length s ≡ 1 → records_refusal n b k ≡ 0
+  unfolding records_refusal
+  one_stays e = simp (none_refused, height, eq-eqb _ _ e)
+
+  pub not_one : (length s ≡ 1 → ⊥) → 7 ≡ records_refusal n b k
+  unfolding records_refusal
+  not_one e = simp (none_refused, height, ne_eqb _ _ e)
+
+  -- the tests of m records, in order: record k is refused
+  module _ (m : ℕ) (l : k < m) where
+    refused : (x : ℕ) → (x ≡ 0 → ⊥) → x ≡ record_refusal n b k → x ≡ records_refusal n b m
+    unfolding records_refusal
+    refused zero h e = absurd (h refl)
+    refused (suc x) h e = sym (ap (λ (y : ℕ). y or_else 7 unless eqb (length (finished b m)) 1) (first_here (record_refusal n b) x k none_refused (sym e) m l))
+
+    pub stop : (r : Refusal) → number_of r ≡ record_refusal n b k → number_of r ≡ records_refusal n b m
+    stop r e = refused (number_of r) (never_none r) e
+
+    pub five_record : is_record n b k ≡ false → 5 ≡ records_refusal n b m
+    unfolding record_refusal
+    five_record e = stop Refusal.Constraint (simp e)
+
+    module _ (is : is_record n b k ≡ true) where
+      pub five_few : length s < takes (record_at b k) → 5 ≡ records_refusal n b m
+      unfolding record_refusal
+      five_few h = stop Refusal.Constraint (simp (is, height, lt-leb _ _ h))
+
+      pub six : takes (record_at b k) ≤ length s → is_ranged (record_at b k) ≡ false → 6 ≡ records_refusal n b m
+      unfolding record_refusal
+      six h e = stop Refusal.Range (simp (is, height, le-leb _ _ h, e))
 
   -- record k is x, and takes m
-  module _ (is : is_record n b k ≡ true) (x : Record) (ix : x ≡ record_at b k) (m : ℕ) (im : m ≡ takes x) where
-    pub five_few : length s < m → record_refusal n b k ≡ 5
-    unfolding record_refusal
-    five_few l = simp (is, height, sym ix, sym im, lt-leb _ _ l)
+  module _ (is : is_record n b k ≡ true) (x : Record) (ix : x ≡ record_at b k) (m : ℕ) (im : m ≡ takes x) (enough : m ≤ length s) where
+    -- what is taken and what is left
+    base_is : length (finished b k) - takes (record_at b k) ≡ length s - m
+    base_is = ap₂ (λ (u w : ℕ). u - w) height (sym (im ∙ ap takes ix))
 
-    module _ (enough : m ≤ length s) where
-      pub six : is_ranged x ≡ false → record_refusal n b k ≡ 6
-      unfolding record_refusal
-      six e = simp (is, height, sym ix, sym im, le-leb _ _ enough, e)
+    new_is : formula_at b k ≡ finish x (drop (length s - m) (finished b k))
+    unfolding formula_at
+    new_is = ap₂ (λ (y : Record) (i : ℕ). finish y (drop i (finished b k))) (sym ix) base_is
 
-      -- what is taken and what is left
-      base_is : length (finished b k) - takes (record_at b k) ≡ length s - m
-      base_is = ap₂ (λ (u w : ℕ). u - w) height (sym (im ∙ ap takes ix))
+    next_is : finished b (k + 1) ≡ take (length s - m) (finished b k) ++ formula_at b k ∷ []
+    unfolding finished formula_at
+    next_is = ap (finished b) (add-one k) ∙ ap (λ (i : ℕ). take i (finished b k) ++ formula_at b k ∷ []) base_is
 
-      new_is : formula_at b k ≡ finish x (drop (length s - m) (finished b k))
-      unfolding formula_at
-      new_is = ap₂ (λ (y : Record) (i : ℕ). finish y (drop i (finished b k))) (sym ix) base_is
+    taken_length : length (drop (length s - m) (finished b k)) ≡ takes x
+    taken_length = length-drop (length s - m) (finished b k) ∙ omega (arith, height)
 
-      next_is : finished b (k + 1) ≡ take (length s - m) (finished b k) ++ formula_at b k ∷ []
-      unfolding finished formula_at
-      next_is = ap (finished b) (add-one k) ∙ ap (λ (i : ℕ). take i (finished b k) ++ formula_at b k ∷ []) base_is
+    mapped : (g : Finished → ℕ) (f : Formula ℕ → ℕ) → map g s ≡ map f (finished b k) →
+        map g (drop (length s - m) s) ≡ map f (drop (length s - m) (finished b k))
+    mapped g f e = sym (drop-map g (length s - m) s) ∙ ap (drop (length s - m)) e ∙ drop-map f (length s - m) (finished b k)
 
-      taken_length : length (drop (length s - m) (finished b k)) ≡ takes x
-      taken_length = length-drop (length s - m) (finished b k) ∙ omega (arith, height)
+    -- those that are taken
+    module _ (cs : List Finished) (ec : cs ≡ drop (length s - m) s) where
+      told : (g : Finished → ℕ) (f : Formula ℕ → ℕ) → map g s ≡ map f (finished b k) → map g cs ≡ map f (drop (length s - m) (finished b k))
+      told g f e = ap (map g) ec ∙ mapped g f e
 
-      mapped : (g : Finished → ℕ) (f : Formula ℕ → ℕ) → map g s ≡ map f (finished b k) →
-          map g (drop (length s - m) s) ≡ map f (drop (length s - m) (finished b k))
-      mapped g f e = sym (drop-map g (length s - m) s) ∙ ap (drop (length s - m)) e ∙ drop-map f (length s - m) (finished b k)
+      depth_told : 1 + greatest (depths cs) ≡ levels (formula_at b k)
+      depth_told = ap (λ (l : List ℕ). 1 + greatest l) (told (λ c. c.depth) levels depths_are) ∙ sym (ap levels new_is ∙ levels_is x _ taken_length)
 
-      -- those that are taken
-      module _ (cs : List Finished) (ec : cs ≡ drop (length s - m) s) where
-        told : (g : Finished → ℕ) (f : Formula ℕ → ℕ) → map g s ≡ map f (finished b k) → map g cs ≡ map f (drop (length s - m) (finished b k))
-        told g f e = ap (map g) ec ∙ mapped g f e
+      quantifiers_told : binds x + greatest (quantified cs) ≡ quantifiers (formula_at b k)
+      quantifiers_told = ap (λ (l : List ℕ). binds x + greatest l) (told (λ c. c.quantifiers) quantifiers quantified_are) ∙ sym (ap quantifiers new_is ∙ quantifiers_is x _ taken_length)
 
-        depth_told : 1 + greatest (depths cs) ≡ levels (formula_at b k)
-        depth_told = ap (λ (l : List ℕ). 1 + greatest l) (told (λ c. c.depth) levels p.depths_are) ∙ sym (ap levels new_is ∙ levels_is x _ taken_length)
+      module _ (ranged : is_ranged x ≡ true) where
+        pub seven : record_refusal n b k ≡ Within (1 + greatest (depths cs)) (binds x + greatest (quantified cs))
+        unfolding record_refusal
+        seven = simp (is, height, sym ix, sym im, le-leb _ _ enough, ranged, depth_told, quantifiers_told)
 
-        quantifiers_told : binds x + greatest (quantified cs) ≡ quantifiers (formula_at b k)
-        quantifiers_told = ap (λ (l : List ℕ). binds x + greatest l) (told (λ c. c.quantifiers) quantifiers p.quantified_are) ∙ sym (ap quantifiers new_is ∙ quantifiers_is x _ taken_length)
+        -- it passes, and is finished
+        snoc : (g : Finished → ℕ) (f : Formula ℕ → ℕ) (c : Finished) → map g s ≡ map f (finished b k) → g c ≡ f (formula_at b k) →
+            map g (take (length s - m) s ++ c ∷ []) ≡ map f (finished b (k + 1))
+        snoc g f c e h =
+            map-append g (take (length s - m) s) (c ∷ [])
+            ∙ ap₂ (λ (l : List ℕ) (i : ℕ). l ++ i ∷ []) (sym (take-map g (length s - m) s) ∙ ap (take (length s - m)) e ∙ take-map f (length s - m) (finished b k)) h
+            ∙ sym (ap (map f) next_is ∙ map-append f (take (length s - m) (finished b k)) (formula_at b k ∷ []))
 
-        module _ (ranged : is_ranged x ≡ true) where
-          pub seven : record_refusal n b k ≡ Within (1 + greatest (depths cs)) (binds x + greatest (quantified cs))
-          unfolding record_refusal
-          seven = simp (is, height, sym ix, sym im, le-leb _ _ enough, ranged, depth_told, quantifiers_told)
+        module _ (c : Finished) (s' : List Finished) (e : s' ≡ take (length s - m) s ++ c ∷ []) where
+          pub depths_more : c.depth ≡ 1 + greatest (depths cs) → depths s' ≡ map levels (finished b (k + 1))
+          depths_more h = rw e (snoc (λ c. c.depth) levels c depths_are (h ∙ depth_told))
 
-          -- it passes, and is finished
-          snoc : (g : Finished → ℕ) (f : Formula ℕ → ℕ) (c : Finished) → map g s ≡ map f (finished b k) → g c ≡ f (formula_at b k) →
-              map g (take (length s - m) s ++ c ∷ []) ≡ map f (finished b (k + 1))
-          snoc g f c e h =
-              map-append g (take (length s - m) s) (c ∷ [])
-              ∙ ap₂ (λ (l : List ℕ) (i : ℕ). l ++ i ∷ []) (sym (take-map g (length s - m) s) ∙ ap (take (length s - m)) e ∙ take-map f (length s - m) (finished b k)) h
-              ∙ sym (ap (map f) next_is ∙ map-append f (take (length s - m) (finished b k)) (formula_at b k ∷ []))
+          pub quantified_more : c.quantifiers ≡ binds x + greatest (quantified cs) → quantified s' ≡ map quantifiers (finished b (k + 1))
+          quantified_more h = rw e (snoc (λ c. c.quantifiers) quantifiers c quantified_are (h ∙ quantifiers_told))
 
-          pub stacked : (c : Finished) → 0 ≡ Within (1 + greatest (depths cs)) (binds x + greatest (quantified cs)) → c.depth ≡ 1 + greatest (depths cs) →
-              c.quantifiers ≡ binds x + greatest (quantified cs) → Stacked n b (k + 1) (take (length s - m) s ++ c ∷ [])
-          stacked c z d q = record {
-            none_yet = none_more (record_refusal n b) k p.none_yet (seven ∙ sym z);
-            depths_are = snoc (λ c. c.depth) levels c p.depths_are (d ∙ depth_told);
-            quantified_are = snoc (λ c. c.quantifiers) quantifiers c p.quantified_are (q ∙ quantifiers_told);
-          }
-
--- ---- the answer
--- record k is refused
-pub stop : (n : ℕ) (b : List ℕ) (m k : ℕ) (s : List Finished) → Stacked n b k s → (r : Refusal) → k < m → number_of r ≡ record_refusal n b k → number_of r ≡ records_refusal n b m
-unfolding records_refusal
-stop n b m k s p r l e = go (number_of r) (never_none r) e
-  where
-    go : (x : ℕ) → (x ≡ 0 → ⊥) → x ≡ record_refusal n b k → x ≡ records_refusal n b m
-    go zero h e = absurd (h refl)
-    go (suc x) h e = sym (ap (λ (y : ℕ). y or_else 7 unless eqb (length (finished b m)) 1) (first_here (record_refusal n b) x k p.none_yet (sym e) m l))
-
--- all passed
-module _ (n : ℕ) (b : List ℕ) (m k : ℕ) (s : List Finished) (p : Stacked n b k s) (is : k ≡ m) where
-  at_end : Stacked n b m s
-  at_end = subst (λ (j : ℕ). Stacked n b j s) is p
-
-  pub one_stays : length s ≡ 1 → records_refusal n b m ≡ 0
-  unfolding records_refusal
-  one_stays e = simp (at_end.none_yet, height n b m s at_end, eq-eqb _ _ e)
-
-  pub not_one : (length s ≡ 1 → ⊥) → 7 ≡ records_refusal n b m
-  unfolding records_refusal
-  not_one e = simp (at_end.none_yet, height n b m s at_end, ne_eqb _ _ e)
+pub ruleset records_tests = (length-append, length-take, none_yet, none_finished, none_more, five_record, five_few, six, seven, depths_more, quantified_more, stop, one_stays, not_one)

@@ -47,6 +47,7 @@ impl<'a> Records<'a> {
     ghost use Rattle.tree.specs.Views.{the_tree};
 
     // The tests of each record: 5, 6, then 7; then 7 unless just one constraint is left.
+    #[tactic(auto, using(crate::proofs::Testing::records_tests))]
     pub fn new(nodes: &'a [u8], constraints: &'a [u8]) -> Result<Records<'a>, Refusal>
         requires nodes { Valid nodes.now (length nodes.now / 16) }
         requires few { length constraints.now / 24 ≤ 256 }
@@ -80,6 +81,7 @@ impl<'a> Records<'a> {
     }
 
     // The one that is left: the last record finishes it.
+    #[tactic(auto, using(crate::proofs::Taking::none_left))]
     pub fn constraint(&self) -> EmlConstraint
         ensures meaning { meaning result ≡ the_constraint self.now }
         ensures root { result.root + 1 ≡ self.now.count }

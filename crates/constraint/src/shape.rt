@@ -1,5 +1,5 @@
 // A constraint as a value, and what it is made of.
-#![tactic(auto, unfolding(crate::specs::Constraint::num_vars, crate::specs::Constraint::num_vars_all, crate::specs::Records::gather))]
+#![tactic(auto, using(crate::specs::VarLaws::num_vars_snoc), unfolding(crate::specs::Constraint::num_vars, crate::specs::Constraint::num_vars_all, crate::specs::Records::gather))]
 
 ghost use Rattle.std.specs.Prelude.{◌≡◌, ◌≤◌, ◌<◌, ◌++◌, [], ◌∷◌, length, IfSome, IfNone};
 ghost use Rattle.constraint.specs.Records.{finished};
@@ -84,6 +84,7 @@ impl<'a> EmlConstraint<'a> {
     }
 
     // Its first record: that of the oldest that it takes, or its own.
+    #[tactic(auto, using(crate::proofs::Taking::starts))]
     pub fn start(self) -> usize
         ensures { result ≡ start_at self.entry.records.now.constraints.now self.entry.root }
     {

@@ -50,6 +50,7 @@ impl Stack {
     }
 
     // The last m.
+    #[tactic(auto, using(crate::proofs::Taking::parts))]
     pub fn last(&self, m: usize) -> &[Finished]
         requires { m ≤ length self.now }
         ensures { result.now ≡ drop (length self.now - m) self.now }
