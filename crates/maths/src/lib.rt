@@ -103,6 +103,7 @@ fn ln_sum(w: f64) -> f64
         .fold(1.0 / 23.0, |s, i| 1.0 / ((2 * i - 1) as f64) + w * s)
 }
 
+#[tactic(auto, using(std::proofs::lemmas::Float::not_nan_f64_bits), unfolding(crate::specs::Ln::ln_at, number::specs::Computing::computing))]
 fn ln_at(m: f64, e: i64) -> f64
     requires { mag e < 2 ^ 53 }
     ensures { result ≡ ln_at m e }
@@ -177,12 +178,14 @@ fn cos_sum(w: f64) -> f64
     })
 }
 
+#[tactic(auto, unfolding(crate::specs::Trig::sin_at))]
 fn sin_at(r: f64) -> f64
     ensures { result ≡ sin_at r }
 {
     r * sin_sum(r * r)
 }
 
+#[tactic(auto, unfolding(crate::specs::Trig::cos_at))]
 fn cos_at(r: f64) -> f64
     ensures { result ≡ cos_at r }
 {
@@ -197,6 +200,7 @@ fn turns_of(b: f64) -> i64
     number::nearest(b * f64::from_bits(0x3FE45F306DC9C883))
 }
 
+#[tactic(auto, using(std::proofs::lemmas::Float::not_nan_f64_bits), unfolding(crate::specs::Trig::rest))]
 fn rest_of(b: f64, n: i64) -> f64
     requires { mag n < 2 ^ 21 }
     ensures { result ≡ rest b n }
@@ -235,6 +239,7 @@ fn turn_of(b: f64) -> Option<Turn>
     })
 }
 
+#[tactic(auto, unfolding(crate::specs::Trig::sin_by, number::specs::Computing::computing))]
 fn sin_by(quarter: u64, r: f64) -> f64
     ensures { result ≡ sin_by quarter r }
 {
@@ -246,6 +251,7 @@ fn sin_by(quarter: u64, r: f64) -> f64
     }
 }
 
+#[tactic(auto, unfolding(crate::specs::Trig::sin_of, number::specs::Computing::computing))]
 pub fn sin(b: f64) -> f64
     ensures { result ≡ sin_of b }
 {
@@ -256,6 +262,7 @@ pub fn sin(b: f64) -> f64
 }
 
 // cos is sin one quarter turn further.
+#[tactic(auto, using(crate::proofs::Quarters::further), unfolding(crate::specs::Trig::cos_of, number::specs::Computing::computing))]
 pub fn cos(b: f64) -> f64
     ensures { result ≡ cos_of b }
 {
@@ -273,12 +280,14 @@ fn atan_sum(w: f64) -> f64
         .fold(1.0 / 43.0, |s, i| 1.0 / ((2 * i - 1) as f64) - w * s)
 }
 
+#[tactic(auto, unfolding(crate::specs::Trig::atan_at))]
 fn atan_at(base: f64, u: f64) -> f64
     ensures { result ≡ atan_at base u }
 {
     base + u * atan_sum(u * u)
 }
 
+#[tactic(auto, using(std::proofs::lemmas::Float::not_nan_f64_bits), unfolding(crate::specs::Trig::atan_of, number::specs::Computing::computing))]
 pub fn atan(t: f64) -> f64
     ensures { result ≡ atan_of t }
 {
@@ -311,12 +320,14 @@ fn at_angle(e: f64, angle: f64) -> Complex
     }
 }
 
+#[tactic(auto, unfolding(crate::specs::Cplx::complex_exp))]
 pub fn complex_exp(z: Complex) -> Complex
     ensures { result ≡ complex_exp z }
 {
     at_angle(quick_exp(z.re), z.im)
 }
 
+#[tactic(auto, unfolding(crate::specs::Cplx::log_size, number::specs::Computing::computing))]
 fn log_size(m: f64, q: f64) -> f64
     ensures { result ≡ log_size m q }
 {
@@ -324,12 +335,14 @@ fn log_size(m: f64, q: f64) -> f64
 }
 
 // An angle that is not negative, with y's sign.
+#[tactic(auto, unfolding(number::specs::Computing::computing))]
 fn signed(y: f64, angle: f64) -> f64
     ensures { result ≡ signed y angle }
 {
     if number::sign_bit(y) { -angle } else { angle }
 }
 
+#[tactic(auto, using(std::proofs::lemmas::Float::not_nan_f64_bits), unfolding(crate::specs::Cplx::angle, number::specs::Computing::computing))]
 fn angle_of(z: Complex, t: f64) -> f64
     ensures { result ≡ angle z t }
 {
@@ -340,6 +353,7 @@ fn angle_of(z: Complex, t: f64) -> f64
     }
 }
 
+#[tactic(auto, using(std::proofs::lemmas::Float::not_nan_f64_bits), unfolding(crate::specs::Cplx::complex_ln, crate::specs::Cplx::real_ln, crate::specs::Cplx::other_ln, number::specs::Computing::computing))]
 pub fn complex_ln(z: Complex) -> Complex
     ensures { result ≡ complex_ln z }
 {
