@@ -16,6 +16,7 @@ ghost use Rattle.maths.specs.Trig.{turns, rest, quarter, sin_step, cos_step, sin
 ghost use Rattle.maths.specs.Cplx.{complex_exp, log_size, signed, angle, complex_ln};
 
 // 2^a
+#[tactic(auto, using(std::proofs::lemmas::Float::not_nan_f64_bits, crate::proofs::Powers::value_is))]
 fn two_to(a: i64) -> f64
     requires { mag a < 1022 }
     ensures { result ≡ two^ a }
@@ -32,6 +33,7 @@ fn exp_sum(r: f64) -> f64
 }
 
 // (s×2^a)×2^(k-a), a = k/2 rounded down
+#[tactic(auto, unfolding(crate::specs::Exp::scaled))]
 fn scale(s: f64, k: i64) -> f64
     requires { mag k < 2000 }
     ensures { result ≡ scaled s k }
@@ -139,6 +141,7 @@ pub fn ln(x: f64) -> f64
 }
 
 // exp and ln where 1, the value of One, comes often, and 0, its ln.
+#[tactic(auto, using(std::proofs::lemmas::Float::not_nan_f64_bits, number::specs::Order::passed, crate::specs::Zeros::exp_zero, crate::specs::Zeros::exp_one), unfolding(number::specs::Computing::computing))]
 pub fn quick_exp(x: f64) -> f64
     ensures { result ≡ exp_of x }
 {
@@ -151,6 +154,7 @@ pub fn quick_exp(x: f64) -> f64
     exp(x)
 }
 
+#[tactic(auto, using(std::proofs::lemmas::Float::not_nan_f64_bits, number::specs::Order::passed, crate::specs::Zeros::ln_one), unfolding(number::specs::Computing::computing))]
 pub fn quick_ln(x: f64) -> f64
     ensures { result ≡ ln_of x }
 {
@@ -193,6 +197,7 @@ fn cos_at(r: f64) -> f64
 }
 
 // How many quarter turns b is, to the nearest; and what they leave of b.
+#[tactic(auto, using(std::proofs::lemmas::Float::not_nan_f64_bits, crate::proofs::Range::times_quarter, number::specs::Below::wider, number::specs::Below::nearest_small), unfolding(crate::specs::Trig::turns))]
 fn turns_of(b: f64) -> i64
     requires { T (below (2 ^ 20 + 1) b) }
     ensures { (result ≡ turns b) × (mag result < 2 ^ 21) }
@@ -225,6 +230,7 @@ pub struct Turn {
 }
 
 // None where b is too far.
+#[tactic(auto, using(crate::proofs::Range::turnable), unfolding(crate::specs::Trig::turn_of, number::specs::Computing::computing))]
 fn turn_of(b: f64) -> Option<Turn>
     ensures value { result ≡ turn_of b }
     ensures small { IfSome result (λ t. t.quarter < 4) }
@@ -305,6 +311,7 @@ pub struct Complex {
 }
 
 // A length e at an angle. cos of a zero is 1, and sin is the zero.
+#[tactic(auto, using(std::proofs::lemmas::Float::not_nan_f64_bits, number::specs::Order::passed, crate::specs::Zeros::cos_zero, crate::specs::Zeros::sin_zero), unfolding(number::specs::Computing::computing))]
 fn at_angle(e: f64, angle: f64) -> Complex
     ensures { result ≡ record { re = e ⊗ cos_of angle; im = e ⊗ sin_of angle } }
 {
