@@ -42,6 +42,7 @@ fn scale(s: f64, k: i64) -> f64
     (s * two_to(a)) * two_to(k - a)
 }
 
+#[tactic(auto, using(std::proofs::lemmas::Float::not_nan_f64_bits, number::specs::Order::only_nan, crate::proofs::Range::product_near, crate::proofs::Range::power_small), unfolding(crate::specs::Exp::exp_of, crate::specs::Exp::exp_at, number::specs::Computing::computing))]
 pub fn exp(x: f64) -> f64
     ensures { result ≡ exp_of x }
 {
