@@ -1,3 +1,4 @@
+pub mod Above
 pub mod Digits
 pub mod Powers
 pub mod Mantissa

@@ -118,6 +118,7 @@ fn ln_at(m: f64, e: i64) -> f64
         + ((2.0 * f) * s + n * f64::from_bits(0x3DEA39EF35793C76))
 }
 
+#[tactic(auto, using(std::proofs::lemmas::Float::not_nan_f64_bits, number::specs::Order::only_nan, crate::proofs::Above::is_inf, crate::proofs::Above::above), unfolding(crate::specs::Ln::ln_of, crate::specs::Ln::ln_from, number::specs::Computing::computing))]
 pub fn ln(x: f64) -> f64
     ensures { result ≡ ln_of x }
 {
