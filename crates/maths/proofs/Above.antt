@@ -25,10 +25,10 @@ zero_level false a b p q = simp (p, q)
 
 pub above : (x : Float) → is_nan x ≡ false → lt x (bits 0) ≡ false → eq x (bits 0) ≡ false → eq x (bits 0x7ff0_0000_0000_0000) ≡ false → T (positive x)
 unfolding is_nan lt eq of_bits
-above nan a b c d = absurd (true≢false a)
-above (inf true) a b c d = absurd (true≢false b)
-above (inf false) a b c d = absurd (true≢false d)
-above (fin true zero e) a b c d = absurd (true≢false (sym (zero_level true (0 * up e * 1) (0 * down e) (simp zero-mul) (zero-mul (down e))) ∙ c))
+above nan a b c d = cc
+above (inf true) a b c d = cc
+above (inf false) a b c d = cc
+above (fin true zero e) a b c d = let z = zero_level true (0 * up e * 1) (0 * down e) (simp zero-mul) (zero-mul (down e)) in cc
 above (fin true (suc m) e) a b c d = let h : 0 < suc m * up e = mul-pos (zero-lt-suc m) (up_pos e) in absurd (omega (arith, ltb-false 0 (suc m * up e * 1 + 0 * down e) b))
-above (fin false zero e) a b c d = absurd (true≢false (sym (zero_level false (0 * up e * 1) (0 * down e) (simp zero-mul) (zero-mul (down e))) ∙ c))
+above (fin false zero e) a b c d = let z = zero_level false (0 * up e * 1) (0 * down e) (simp zero-mul) (zero-mul (down e)) in cc
 above (fin false (suc m) e) a b c d = lt→ltb 0 (suc m) (omega arith)
