@@ -76,6 +76,7 @@ fn of_digits(q: u64) -> f64
     f64::from_bits(q + 0x3fe0_0000_0000_0000)
 }
 
+#[tactic(auto, using(crate::proofs::Bits::found))]
 fn split(x: f64) -> Parts
     requires { T (positive x) }
     ensures { (result.m ≡ mantissa x) × (result.e ≡ exponent x) × (mag result.e < 5000) }
