@@ -1,11 +1,10 @@
--- What `split` finds in the bits of a value above zero, as the code has it. Assumes nothing.
+-- What `split` needs of the bits of a value above zero: it is no NaN, and its field and its fraction are what `High` and `Low` say. Assumes nothing.
 use mathlib.Core.Path.{◌≡◌}
 use mathlib.Core.Bool.{not}
-use Prim.Native.Nat.{ℕ, ◌/◌, ◌%◌, ◌<◌}
-use native.Mathlib.Omega.{arith}
+use Prim.Native.Nat.{ℕ, ◌%◌}
 use lib.Dec.{T}
 use lib.Bits.{bit_and, and_mask}
-use lib.Ieee.{Float, nan, inf, fin, binary64, is_nan, fits, to_bits}
+use lib.Ieee.{Float, nan, inf, fin, is_nan}
 use lib.Ieee.Bits.{to_bits-lt}
 use lib.Ieee.Positive.{positive}
 use Rattle.number.specs.Order.{passed}
@@ -20,7 +19,4 @@ real (fin s m e) p = tt
 pub mask : (b : ℕ) → bit_and b 0xf_ffff_ffff_ffff ≡ b % 0x10_0000_0000_0000
 mask b = and_mask b 52
 
-pub field_lt : (x : Float) → T (fits binary64 x) → to_bits binary64 x / 0x10_0000_0000_0000 < 4096
-field_lt x f = omega (arith, to_bits-lt binary64 x f)
-
-pub ruleset found = (passed, real, mask, field_lt, high_case, low_case)
+pub ruleset found = (passed, real, mask, to_bits-lt, high_case, low_case)
