@@ -36,6 +36,7 @@ fn put_decided(
 
 // Whether the constraint holds for every value of variable `var` in [lo, hi]. `verdict` is 0 for True, 1 TrueWithWitness, 2 FalseWithCounterexample, 3
 // Unknown; the first `count` places of `point` are the counterexample, and those past it stay. 10 where `point` has fewer places than variables.
+#[tactic(auto, using(decide::specs::Decisions::forall_given_values))]
 pub fn eml_decide_forall(
     nodes: &[u8],
     constraints: &[u8],
@@ -54,6 +55,7 @@ pub fn eml_decide_forall(
 }
 
 // Whether it holds for some value; the point is the witness.
+#[tactic(auto, using(decide::specs::Decisions::exists_given_values))]
 pub fn eml_decide_exists(
     nodes: &[u8],
     constraints: &[u8],

@@ -30,6 +30,7 @@ pub fn eml_interval_contains(lo: f64, hi: f64, x: f64) -> bool
 }
 
 // The lower half to [low, middle] and the upper to [middle, high].
+#[tactic(auto, unfolding(interval::specs::Interval::split))]
 pub fn eml_interval_split(lo: f64, hi: f64, low: &mut f64, middle: &mut f64, high: &mut f64)
     ensures { record { lower = final low ‥ final middle; upper = final middle ‥ final high } ≡ split (lo ‥ hi) }
 {

@@ -11,6 +11,7 @@ use crate::answers::put_point;
 use nra::Solved;
 use record::Refusal;
 
+#[tactic(auto, using(number::specs::Literals::zero_is))]
 fn put_solved(
     answer: Result<Solved, Refusal>,
     stop: &mut u8,
@@ -55,6 +56,7 @@ fn put_solved(
 
 // Solves a house file. `stop` is 0 for assignment, 1 conflict, 2 tolerance, 3 limit, 4 unsatisfied. An assignment has its values in the first
 // `count` places of `point`; any other answer has its residual. 10 where there are fewer places than variables. A refusal leaves every place as it was.
+#[tactic(auto, using(nra::specs::Fits::file_fits))]
 pub fn eml_solve_file(
     file: &[u8],
     limit: usize,
@@ -73,6 +75,7 @@ pub fn eml_solve_file(
 }
 
 // Solves records with bounds, and answers as `eml_solve_file` does.
+#[tactic(auto, using(nra::specs::Fits::given_fits))]
 pub fn eml_solve(
     nodes: &[u8],
     constraints: &[u8],

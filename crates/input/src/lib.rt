@@ -8,6 +8,7 @@ use std::io::{Read, Result};
 
 // Reads until the buffer is full, the input ends or a read fails, and returns how many bytes it put at the start, and the error: what
 // was read before an error counts too. (The library's `read_exact` says nothing of the bytes then, so this is a loop over `read`.)
+#[tactic(auto, using(crate::proofs::Turn::read_more))]
 pub fn read_full<R: Read>(input: &mut R, buf: &mut [u8]) -> (usize, Result<()>)
     ensures within { result.0 ≤ length buf.new }
     ensures bytes { Consumes (R.remaining input.old) (R.remaining input.new) (take result.0 buf.new) }

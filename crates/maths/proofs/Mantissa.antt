@@ -161,7 +161,6 @@ pub record High (x : Float) (b : ℕ) : Type 0 where
 -- a subnormal one, from the leading zeros of its fraction f
 pub record Low (x : Float) (f s : ℕ) : Type 0 where
   pub zeros : 11 ≤ count_leading_zeros 64 f
-  pub some : 0 < s
   pub few : s ≤ 52
   pub ge : 2 ^ 52 ≤ f * 2 ^ s
   pub lt : f * 2 ^ s < 2 ^ 53
@@ -215,7 +214,6 @@ low_case (fin false (suc n) d) f p h =
     let r = up_by_is (suc n) o i j b w h in
     record {
       zeros = r.0;
-      some = r.1;
       few = r.2;
       ge = rw g (digits_ge (suc n) (omega arith) i);
       lt = rw g (digits_lt (suc n) (omega arith) i);

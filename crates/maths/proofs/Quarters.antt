@@ -2,14 +2,9 @@
 use mathlib.Core.Path.{◌≡◌, refl}
 use Prim.Native.Nat.{ℕ, zero, suc, ◌+◌, ◌%◌, ◌<◌}
 use native.Mathlib.Omega.{arith}
-use lib.IntN.{ℤ, pos, negsuc}
 use lib.Ieee.{Float}
 use Rattle.number.specs.Notation.{when◌then◌else◌}
-use Rattle.maths.specs.Trig.{quarter, sin_by, cos_by}
-
-quarter_small : (n : ℤ) → quarter n < 4
-quarter_small (pos k) = omega arith
-quarter_small (negsuc k) = omega arith
+use Rattle.maths.specs.Trig.{sin_by, cos_by}
 
 pub further : (q : ℕ) (r : Float) → q < 4 → sin_by ((q + 1) % 4) r ≡ cos_by q r
 unfolding sin_by cos_by when◌then◌else◌

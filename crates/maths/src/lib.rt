@@ -16,6 +16,7 @@ ghost use Rattle.maths.specs.Trig.{turns, rest, quarter, sin_step, cos_step, sin
 ghost use Rattle.maths.specs.Cplx.{complex_exp, log_size, signed, angle, complex_ln};
 
 // 2^a
+#[tactic(auto, using(std::proofs::lemmas::Float::not_nan_f64_bits, crate::proofs::Powers::value_is))]
 fn two_to(a: i64) -> f64
     requires { mag a < 1022 }
     ensures { result ≡ two^ a }
@@ -32,6 +33,7 @@ fn exp_sum(r: f64) -> f64
 }
 
 // (s×2^a)×2^(k-a), a = k/2 rounded down
+#[tactic(auto, unfolding(crate::specs::Exp::scaled))]
 fn scale(s: f64, k: i64) -> f64
     requires { mag k < 2000 }
     ensures { result ≡ scaled s k }
@@ -40,6 +42,7 @@ fn scale(s: f64, k: i64) -> f64
     (s * two_to(a)) * two_to(k - a)
 }
 
+#[tactic(auto, using(std::proofs::lemmas::Float::not_nan_f64_bits, number::specs::Order::only_nan, crate::proofs::Range::product_near, crate::proofs::Range::power_small), unfolding(crate::specs::Exp::exp_of, crate::specs::Exp::exp_at, number::specs::Computing::computing))]
 pub fn exp(x: f64) -> f64
     ensures { result ≡ exp_of x }
 {
@@ -73,6 +76,7 @@ fn of_digits(q: u64) -> f64
     f64::from_bits(q + 0x3fe0_0000_0000_0000)
 }
 
+#[tactic(auto, using(crate::proofs::Bits::found))]
 fn split(x: f64) -> Parts
     requires { T (positive x) }
     ensures { (result.m ≡ mantissa x) × (result.e ≡ exponent x) × (mag result.e < 5000) }
@@ -103,6 +107,7 @@ fn ln_sum(w: f64) -> f64
         .fold(1.0 / 23.0, |s, i| 1.0 / ((2 * i - 1) as f64) + w * s)
 }
 
+#[tactic(auto, using(std::proofs::lemmas::Float::not_nan_f64_bits), unfolding(crate::specs::Ln::ln_at, number::specs::Computing::computing))]
 fn ln_at(m: f64, e: i64) -> f64
     requires { mag e < 2 ^ 53 }
     ensures { result ≡ ln_at m e }
@@ -114,6 +119,7 @@ fn ln_at(m: f64, e: i64) -> f64
         + ((2.0 * f) * s + n * f64::from_bits(0x3DEA39EF35793C76))
 }
 
+#[tactic(auto, using(std::proofs::lemmas::Float::not_nan_f64_bits, number::specs::Order::only_nan, crate::proofs::Above::is_inf, crate::proofs::Above::above), unfolding(crate::specs::Ln::ln_of, crate::specs::Ln::ln_from, number::specs::Computing::computing))]
 pub fn ln(x: f64) -> f64
     ensures { result ≡ ln_of x }
 {
@@ -138,6 +144,7 @@ pub fn ln(x: f64) -> f64
 }
 
 // exp and ln where 1, the value of One, comes often, and 0, its ln.
+#[tactic(auto, using(std::proofs::lemmas::Float::not_nan_f64_bits, number::specs::Order::passed, crate::specs::Zeros::exp_zero, crate::specs::Zeros::exp_one), unfolding(number::specs::Computing::computing))]
 pub fn quick_exp(x: f64) -> f64
     ensures { result ≡ exp_of x }
 {
@@ -150,6 +157,7 @@ pub fn quick_exp(x: f64) -> f64
     exp(x)
 }
 
+#[tactic(auto, using(std::proofs::lemmas::Float::not_nan_f64_bits, number::specs::Order::passed, crate::specs::Zeros::ln_one), unfolding(number::specs::Computing::computing))]
 pub fn quick_ln(x: f64) -> f64
     ensures { result ≡ ln_of x }
 {
@@ -177,12 +185,14 @@ fn cos_sum(w: f64) -> f64
     })
 }
 
+#[tactic(auto, unfolding(crate::specs::Trig::sin_at))]
 fn sin_at(r: f64) -> f64
     ensures { result ≡ sin_at r }
 {
     r * sin_sum(r * r)
 }
 
+#[tactic(auto, unfolding(crate::specs::Trig::cos_at))]
 fn cos_at(r: f64) -> f64
     ensures { result ≡ cos_at r }
 {
@@ -190,6 +200,7 @@ fn cos_at(r: f64) -> f64
 }
 
 // How many quarter turns b is, to the nearest; and what they leave of b.
+#[tactic(auto, using(std::proofs::lemmas::Float::not_nan_f64_bits, crate::proofs::Range::times_quarter, number::specs::Below::wider, number::specs::Below::nearest_small), unfolding(crate::specs::Trig::turns))]
 fn turns_of(b: f64) -> i64
     requires { T (below (2 ^ 20 + 1) b) }
     ensures { (result ≡ turns b) × (mag result < 2 ^ 21) }
@@ -197,6 +208,7 @@ fn turns_of(b: f64) -> i64
     number::nearest(b * f64::from_bits(0x3FE45F306DC9C883))
 }
 
+#[tactic(auto, using(std::proofs::lemmas::Float::not_nan_f64_bits), unfolding(crate::specs::Trig::rest))]
 fn rest_of(b: f64, n: i64) -> f64
     requires { mag n < 2 ^ 21 }
     ensures { result ≡ rest b n }
@@ -221,6 +233,7 @@ pub struct Turn {
 }
 
 // None where b is too far.
+#[tactic(auto, using(crate::proofs::Range::turnable), unfolding(crate::specs::Trig::turn_of, number::specs::Computing::computing))]
 fn turn_of(b: f64) -> Option<Turn>
     ensures value { result ≡ turn_of b }
     ensures small { IfSome result (λ t. t.quarter < 4) }
@@ -235,6 +248,7 @@ fn turn_of(b: f64) -> Option<Turn>
     })
 }
 
+#[tactic(auto, unfolding(crate::specs::Trig::sin_by, number::specs::Computing::computing))]
 fn sin_by(quarter: u64, r: f64) -> f64
     ensures { result ≡ sin_by quarter r }
 {
@@ -246,6 +260,7 @@ fn sin_by(quarter: u64, r: f64) -> f64
     }
 }
 
+#[tactic(auto, unfolding(crate::specs::Trig::sin_of, number::specs::Computing::computing))]
 pub fn sin(b: f64) -> f64
     ensures { result ≡ sin_of b }
 {
@@ -256,6 +271,7 @@ pub fn sin(b: f64) -> f64
 }
 
 // cos is sin one quarter turn further.
+#[tactic(auto, using(crate::proofs::Quarters::further), unfolding(crate::specs::Trig::cos_of, number::specs::Computing::computing))]
 pub fn cos(b: f64) -> f64
     ensures { result ≡ cos_of b }
 {
@@ -273,12 +289,14 @@ fn atan_sum(w: f64) -> f64
         .fold(1.0 / 43.0, |s, i| 1.0 / ((2 * i - 1) as f64) - w * s)
 }
 
+#[tactic(auto, unfolding(crate::specs::Trig::atan_at))]
 fn atan_at(base: f64, u: f64) -> f64
     ensures { result ≡ atan_at base u }
 {
     base + u * atan_sum(u * u)
 }
 
+#[tactic(auto, using(std::proofs::lemmas::Float::not_nan_f64_bits), unfolding(crate::specs::Trig::atan_of, number::specs::Computing::computing))]
 pub fn atan(t: f64) -> f64
     ensures { result ≡ atan_of t }
 {
@@ -296,6 +314,7 @@ pub struct Complex {
 }
 
 // A length e at an angle. cos of a zero is 1, and sin is the zero.
+#[tactic(auto, using(std::proofs::lemmas::Float::not_nan_f64_bits, number::specs::Order::passed, crate::specs::Zeros::cos_zero, crate::specs::Zeros::sin_zero), unfolding(number::specs::Computing::computing))]
 fn at_angle(e: f64, angle: f64) -> Complex
     ensures { result ≡ record { re = e ⊗ cos_of angle; im = e ⊗ sin_of angle } }
 {
@@ -311,12 +330,14 @@ fn at_angle(e: f64, angle: f64) -> Complex
     }
 }
 
+#[tactic(auto, unfolding(crate::specs::Cplx::complex_exp))]
 pub fn complex_exp(z: Complex) -> Complex
     ensures { result ≡ complex_exp z }
 {
     at_angle(quick_exp(z.re), z.im)
 }
 
+#[tactic(auto, unfolding(crate::specs::Cplx::log_size, number::specs::Computing::computing))]
 fn log_size(m: f64, q: f64) -> f64
     ensures { result ≡ log_size m q }
 {
@@ -324,12 +345,14 @@ fn log_size(m: f64, q: f64) -> f64
 }
 
 // An angle that is not negative, with y's sign.
+#[tactic(auto, unfolding(number::specs::Computing::computing))]
 fn signed(y: f64, angle: f64) -> f64
     ensures { result ≡ signed y angle }
 {
     if number::sign_bit(y) { -angle } else { angle }
 }
 
+#[tactic(auto, using(std::proofs::lemmas::Float::not_nan_f64_bits), unfolding(crate::specs::Cplx::angle, number::specs::Computing::computing))]
 fn angle_of(z: Complex, t: f64) -> f64
     ensures { result ≡ angle z t }
 {
@@ -340,6 +363,7 @@ fn angle_of(z: Complex, t: f64) -> f64
     }
 }
 
+#[tactic(auto, using(std::proofs::lemmas::Float::not_nan_f64_bits), unfolding(crate::specs::Cplx::complex_ln, crate::specs::Cplx::real_ln, crate::specs::Cplx::other_ln, number::specs::Computing::computing))]
 pub fn complex_ln(z: Complex) -> Complex
     ensures { result ≡ complex_ln z }
 {

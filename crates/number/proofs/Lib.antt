@@ -1,2 +1,3 @@
 pub mod Neighbours
+pub mod Signs
 pub mod Whole

@@ -7,7 +7,7 @@ use lib.Ieee.{Float, nan, inf, fin, binary64, neg, is_nan, lt, fits, to_bits, of
 use lib.Ieee.Fits.{neg-fits, inf-fits}
 use lib.Ieee.Bits.{of_bits-to_bits, of_bits-fits}
 use lib.IntN.{ℤ}
-use Rattle.number.specs.Order.{number, naught}
+use Rattle.number.specs.Order.{number, naught, passed}
 use Rattle.number.specs.Pattern.{signless}
 use Rattle.number.specs.Next.{next_up, no_nan, no_sign, back, above_zero, bits_lt}
 
@@ -67,3 +67,6 @@ same (fin true (suc m) e) h =
     let k = neg-fits binary64 (fin true (suc m) e) h in
     ap (Library.next_up_by_bits binary64 (fin true (suc m) e)) (neg_bits x tt tt)
     ∙ counts_down _ _ (above m e k) (below m e k) ∙ neg_read (to_bits binary64 x - 1) (let b = below m e k in omega arith)
+
+-- of a parameter, which fits
+pub ruleset neighbours = (passed, same, neg-fits)

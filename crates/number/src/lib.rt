@@ -12,6 +12,7 @@ ghost use Rattle.number.specs.Sound.{sound};
 
 // A NaN yields the other operand, which for b needs no test: no comparison with a NaN holds. Equal operands yield the first,
 // where the library's `max` and `min` leave open which of two zeros they take. (One function of the comparison would be longer.)
+#[tactic(auto, using(crate::specs::Order::passed, crate::specs::Order::lt_right), unfolding(crate::specs::Computing::computing))]
 pub fn max(a: f64, b: f64) -> f64
     ensures { result ≡ max_of a b }
 {
@@ -21,6 +22,7 @@ pub fn max(a: f64, b: f64) -> f64
     if a < b { b } else { a }
 }
 
+#[tactic(auto, using(crate::specs::Order::passed, crate::specs::Order::lt_left), unfolding(crate::specs::Computing::computing))]
 pub fn min(a: f64, b: f64) -> f64
     ensures { result ≡ min_of a b }
 {
@@ -30,12 +32,14 @@ pub fn min(a: f64, b: f64) -> f64
     if b < a { b } else { a }
 }
 
+#[tactic(auto, using(crate::proofs::Signs::magnitude))]
 pub fn abs(x: f64) -> f64
     ensures { result ≡ abs_of x }
 {
     x.abs()
 }
 
+#[tactic(auto, using(crate::proofs::Signs::sign, crate::proofs::Signs::unsigned))]
 pub fn sign_bit(x: f64) -> bool
     ensures { result ≡ sign_bit x }
 {
@@ -43,12 +47,14 @@ pub fn sign_bit(x: f64) -> bool
 }
 
 // IEEE 754, clause 5.3.1.
+#[tactic(auto, using(crate::proofs::Neighbours::neighbours))]
 pub fn next_up(x: f64) -> f64
     ensures { result ≡ next_up binary64 x }
 {
     x.next_up()
 }
 
+#[tactic(auto, using(crate::proofs::Neighbours::neighbours), unfolding(crate::specs::Next::next_down))]
 pub fn next_down(x: f64) -> f64
     ensures { result ≡ next_down binary64 x }
 {
@@ -80,6 +86,7 @@ pub fn nearest(x: f64) -> i64
 }
 
 // A sound range: finite ends of magnitude at most 2^1022, and lo <= hi. `&` has no branch, so the test is the definition's.
+#[tactic(auto, unfolding(crate::specs::Computing::computing))]
 pub fn is_sound(lo: f64, hi: f64) -> bool
     ensures { result ≡ sound binary64 lo hi }
 {

@@ -37,6 +37,7 @@ pub fn read_u64(b: &[u8], at: usize) -> u64
     ])
 }
 
+#[tactic(auto, unfolding(crate::specs::Bytes::f64_at))]
 pub fn read_f64(b: &[u8], at: usize) -> f64
     requires { at + 8 ≤ length b.now }
     ensures { result ≡ f64_at b.now at }
@@ -44,6 +45,7 @@ pub fn read_f64(b: &[u8], at: usize) -> f64
     number::of_bits(read_u64(b, at))
 }
 
+#[tactic(auto, using(crate::proofs::Slices::put_at), unfolding(crate::specs::Bytes::u32_bytes))]
 pub fn write_u32(b: &mut [u8], at: usize, n: u32)
     requires { at + 4 ≤ length b.old }
     ensures { final b ≡ sets (old b) at (u32_bytes n) }
@@ -51,6 +53,7 @@ pub fn write_u32(b: &mut [u8], at: usize, n: u32)
     b[at..at + 4].copy_from_slice(&n.to_le_bytes());
 }
 
+#[tactic(auto, using(crate::proofs::Slices::put_u64))]
 pub fn write_u64(b: &mut [u8], at: usize, n: u64)
     requires { at + 8 ≤ length b.old }
     ensures { final b ≡ sets (old b) at (u64_bytes n) }

@@ -1,5 +1,5 @@
 // The numbers of document 01 that a caller may want to tune, in one record that every function using them receives.
-#![tactic(auto)]
+#![tactic(auto, unfolding(crate::specs::Settings::usual, number::specs::Computing::computing))]
 
 ghost use Rattle.std.specs.Prelude.{◌≡◌};
 ghost use Rattle.settings.specs.Settings as Document;

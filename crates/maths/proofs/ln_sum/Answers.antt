@@ -2,10 +2,10 @@
 use lib.Ieee.{of_bits, of_int}
 use Rattle.std.proofs.Common.{rules, refl}
 use Rattle.number.specs.Literals.{one_is}
-use Rattle.maths.specs.Ln.{ln_step, ln_sum}
+use Rattle.maths.specs.Ln.{ln_sum}
 use Rattle.maths.proofs.Series.{counted}
 use Rattle.maths.proofs.ln_sum.Goals as goal
 
 pub returns : goal.returns
 unfolding ln_sum of_bits of_int
-returns c = counted 11 (ln_step c.args.w) c.rev.ensures.runs c.fold.ensures.runs (search (rules, one_is)) refl
+returns c = counted 11 _ c.rev.ensures.runs c.fold.ensures.runs (search (rules, one_is)) refl

@@ -1,9 +1,8 @@
 -- `maths::sin_sum` meets its contract: the fold is the series. Assumes nothing.
 use Rattle.std.proofs.Common.{rules}
 use Rattle.number.specs.Literals.{one_is}
-use Rattle.maths.specs.Trig.{sin_step}
 use Rattle.maths.proofs.Series.{counted}
 use Rattle.maths.proofs.sin_sum.Goals as goal
 
 pub returns : goal.returns
-returns c = counted 8 (sin_step c.args.w) c.rev.ensures.runs c.fold.ensures.runs (search (rules, one_is)) one_is
+returns c = counted 8 _ c.rev.ensures.runs c.fold.ensures.runs (search (rules, one_is)) one_is
