@@ -14,10 +14,10 @@ use record::Refusal;
 pub fn refusal_number<T: Drop>(answer: Result<T, Refusal>) -> u8
     ensures { result ≡ refusal_of answer }
 {
-    match answer {
-        Ok(_) => 0,
-        Err(refusal) => refusal.into(),
+    if let Err(refusal) = answer {
+        return refusal.into();
     }
+    0
 }
 
 pub fn put<T: Copy>(answer: Result<T, Refusal>, place: &mut T) -> u8
