@@ -1,6 +1,5 @@
 pub mod Eval
 pub mod Machine
-pub mod MachineLaws
 pub mod Check
 pub mod Residual
 pub mod Measure

@@ -121,7 +121,7 @@ fn step(
 }
 
 // Runs the tree's instructions in postorder.
-#[tactic(auto, using(crate::specs::MachineLaws::run_means), unfolding(crate::specs::Eval::eval_complex, crate::specs::Machine::step, tree::specs::Tree::depth))]
+#[tactic(auto, using(crate::proofs::Machine::run_means), unfolding(crate::specs::Eval::eval_complex, crate::specs::Machine::step, tree::specs::Tree::depth))]
 fn run(
     tree: EmlTree,
     settings: &Settings,
@@ -145,7 +145,7 @@ fn run(
 }
 
 // The stack is lent, so that it is made once for many evaluations.
-#[tactic(auto, using(crate::specs::MachineLaws::run_means, tree::specs::NodeLaws::depth_small))]
+#[tactic(auto, using(crate::proofs::Machine::run_means, tree::specs::NodeLaws::depth_small))]
 pub fn eval_complex(
     tree: EmlTree,
     settings: Settings,
