@@ -2,7 +2,6 @@
 use Rattle.std.specs.Prelude.{ℕ, ◌+◌, ◌*◌, ◌≤◌, ◌<◌, ◌≡◌, List, Ok, Err, length}
 use Rattle.std.proofs.Common.{sym, [], ◌∷◌, append-nil}
 use borrow.Author.Tests.{le-leb, lt-leb}
-use Rattle.std.proofs.lemmas.Result.{err_from_is_err_and}
 use Rattle.std.proofs.Math.Seq.{sets}
 use Rattle.record.specs.Leaving.{◌leaving◌}
 use Rattle.record.specs.Refused.{number_of}

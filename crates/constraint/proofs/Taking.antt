@@ -40,7 +40,7 @@ module _ (r : Records) (k : ℕ) (l : k < r.count) where
   pub named_forall : (v : ℕ) (lo hi : Float) → record_of r k ≡ Record.ForAll v lo hi → (v < 16) × (k - 1 < k)
   named_forall v lo hi e = (named r k l (Record.ForAll v lo hi) e, omega (arith, (inside r k l (Record.ForAll v lo hi) e refl).0))
 
-pub ruleset shapes = (inside, not_inside, named_forall, named_exists, atom_node, at_atom, at_not, at_and, and_taken, at_or, or_taken, at_forall, at_exists)
+pub ruleset shapes = (not_inside, named_forall, named_exists, atom_node, at_atom, at_not, at_and, and_taken, at_or, or_taken, at_forall, at_exists)
 
 -- a part of a list
 pub ruleset parts = (length-take-le, drop-take)
