@@ -1,10 +1,11 @@
 -- `constraint::records::finish` meets its contract: the greatest depth and the most quantifiers of those that are taken. Assumes nothing.
-use Rattle.std.proofs.Common.{◌≡◌, unwrap_or, ap, ◌∙◌, rules, tests, arith}
+use borrow.Author.Tests.{le-leb}
+use Rattle.std.proofs.Common.{◌+◌, ◌≤◌, ◌≡◌, unwrap_or, ap, ◌∙◌, rules, tests, arith}
 use Rattle.std.proofs.lemmas.Bool.Decides.{nat_tests}
 use Rattle.std.proofs.lemmas.Iterator.{YieldsList-from_slice, YieldsList-from_map}
 use Rattle.std.proofs.lemmas.Iterator.Consumers.{reduce_from_yields_List}
 use Rattle.std.proofs.lemmas.List.Folds.{max_of_map}
-use Rattle.constraint.specs.Code.{greatest, depths, quantified}
+use Rattle.constraint.specs.Code.{binds, greatest, depths, quantified}
 use Rattle.constraint.proofs.Testing.{greatest_is}
 use Rattle.constraint.specs.declared.stack.Finished.{Finished}
 use Rattle.constraint.proofs.records.finish.Goals as goal
@@ -37,7 +38,9 @@ returns-then-depth-gt16-clause-refusal c =
 pub returns-clause-refusal : goal.returns-clause-refusal
 returns-clause-refusal c =
     let w = (goal.at.returns-clause-refusal c).After-unwrap_or-most in
-    grind (arith, nat_tests, deepest_is w, most_is w)
+    let d : 1 + greatest (depths c.args.taken.now) ≤ 16 = omega (arith, deepest_is w) in
+    let q : binds c.args.r + greatest (quantified c.args.taken.now) ≤ 4 = omega (arith, most_is w) in
+    simp (le-leb _ _ d, le-leb _ _ q)
 
 pub returns-clause-depth : goal.returns-clause-depth
 returns-clause-depth c = omega (arith, deepest_is (goal.at.returns-clause-depth c).After-unwrap_or-most)
