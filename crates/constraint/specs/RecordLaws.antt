@@ -18,7 +18,7 @@ use Rattle.tree.specs.Nodes.{tree_at, Valid}
 use Rattle.tree.specs.NodeLaws.{prefix as nodes-prefix}
 use Rattle.constraint.specs.Constraint.{Formula, Atom, Not, And, Or, ForAll, Exists, map_formula, levels, quantifiers}
 use Rattle.constraint.specs.Records.{record_at, is_record, is_ranged, takes, none, finish, finished, formula_at, constraint_at, record_refusal, records_refusal}
-use Rattle.constraint.specs.Starts.{start_at, formulas_to, up_to}
+use Rattle.constraint.specs.Starts.{start_at, formulas_to, up_to, Ready}
 use Rattle.constraint.specs.Views.{record_of, constraint_of, constraints_before, Taken}
 use Rattle.constraint.specs.Code.{Writable}
 use Rattle.constraint.specs.FormulaLaws.{levels_map, quantifiers_map, gather_map}
@@ -136,6 +136,22 @@ one_taken b zero h = absurd (omega arith)
 one_taken b (suc n) h = ap (formula_at b) (omega arith)
 
 -- ---- records that passed
+pub ready : (nodes b : List ℕ) (n : ℕ) → records_refusal (length nodes / 16) b n ≡ 0 → Valid nodes (length nodes / 16) → n ≤ 256 → 24 * n ≤ length b → Ready nodes b n
+ready nodes b n e v few there = record {
+  valid = v;
+  few = few;
+  there = there;
+  passed = none_of_each (record_refusal (length nodes / 16) b) n (tests (length nodes / 16) b n e).0;
+}
+
+pub fewer : {nodes b : List ℕ} {n : ℕ} → Ready nodes b n → (m : ℕ) → m ≤ n → Ready nodes b m
+fewer p m h = record {
+  valid = p.valid;
+  few = omega (arith, p.few);
+  there = omega (arith, p.there);
+  passed = λ k l. p.passed k (omega arith);
+}
+
 module _ (r : Records) where
   abbrev nodes : List ℕ
   nodes = r.nodes.now
@@ -143,14 +159,10 @@ module _ (r : Records) where
   abbrev b : List ℕ
   b = r.constraints.now
 
-  -- one constraint is left, and the last record finishes it
-  pub one_left : (0 < r.count) × (finished b r.count ≡ formula_at b (r.count - 1) ∷ [])
-  one_left = only_left (length nodes / 16) b r.count r.ready.accepted
-
   -- record k, by what it says
   module _ (k : ℕ) (l : k < r.count) where
     here : Stands (length nodes / 16) b k
-    here = each_stands (length nodes / 16) b r.count r.ready.accepted k l
+    here = stands (length nodes / 16) b k (r.ready.passed k l)
 
     pub record_there : 24 * k + 24 ≤ length b
     record_there = omega (arith, r.ready.there)

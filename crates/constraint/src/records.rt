@@ -12,13 +12,14 @@ use crate::{EmlConstraint, Record, is_ranged, is_record, quantifier_of, record_i
 use record::Refusal;
 use tree::EmlTree;
 
-// They stand over nodes that passed too.
+// They stand over nodes that passed too, all of them; free places behind are not lent.
 #[derive(Drop)]
 pub struct Records<'a> {
     pub nodes: &'a [u8],
     pub constraints: &'a [u8],
     pub count: usize,
     pub ghost ready: { Ready nodes.now constraints.now count },
+    pub ghost some: { 0 < count },
 }
 
 // What a record finishes, from those that it takes: 7.
@@ -80,7 +81,6 @@ impl<'a> Records<'a> {
     }
 
     // The one that is left: the last record finishes it.
-    #[tactic(auto, using(crate::proofs::Taking::none_left))]
     pub fn constraint(&self) -> EmlConstraint
         ensures meaning { meaning result ≡ the_constraint self.now }
         ensures root { result.root + 1 ≡ self.now.count }

@@ -1,8 +1,8 @@
 -- How many digits there are, and that they are what the library writes of a u64 by `{:016X}`. Assumes nothing.
-use Rattle.std.specs.Prelude.{ℕ, zero, suc, ◌+◌, ◌-◌, ◌/◌, ◌%◌, ◌^◌, ◌<◌, ◌≤◌, ◌≡◌, refl, Bool, true, false, List, [], ◌∷◌, ◌++◌, length, replicate, ltb, cond, nat_eq}
+use Rattle.std.specs.Prelude.{ℕ, zero, suc, ◌+◌, ◌-◌, ◌/◌, ◌%◌, ◌^◌, ◌<◌, ◌≤◌, ◌≡◌, refl, Bool, true, false, List, [], ◌∷◌, ◌++◌, length, replicate, drop, set, ltb, cond, nat_eq}
 use Rattle.std.specs.Fmt.{digit_glyph, digits_onto, padded_integral, format_spec, char_count}
 use Rattle.std.specs.Fmt as Fmt
-use Rattle.std.proofs.Common.{◌∙◌, arith, add-one, append-nil, length-append}
+use Rattle.std.proofs.Common.{sym, ◌∙◌, arith, add-one, append-nil, length-append, length-set, drop-cons, drop-set-lt, get_or-set_same}
 use Rattle.std.proofs.lemmas.Bool.{eqb-true, eq-eqb, cond_both}
 use Rattle.std.proofs.lemmas.List.{replicate-append-replicate}
 use Rattle.std.proofs.Math.Nat.{pow-suc}
@@ -14,6 +14,15 @@ pub length_digits : (k n : ℕ) → length (digits k n) ≡ k
 unfolding digits
 length_digits zero n = refl
 length_digits (suc k) n = length-append (digits k (n / 16)) (glyph (n % 16) ∷ []) ∙ (let h = length_digits k (n / 16) in omega (arith, h))
+
+-- Storing the last of j + 1 digits in front of those that are stored leaves j to store.
+pub stored : (j n : ℕ) (text : List ℕ) {d : ℕ} → d ≡ glyph (n % 16) → j < length text → digits j (n / 16) ++ drop j (set text j d) ≡ digits (suc j) n ++ drop (suc j) text
+unfolding digits
+stored j n text {d} e h =
+    let t = set text j d in
+    let l : j < length t = rw (length-set text j d) h in
+    let q : drop j t ≡ d ∷ drop (suc j) text = drop-cons t j 0 l ∙ rw (get_or-set_same text j d 0 h, drop-set-lt (suc j) text j d (omega arith)) in
+    rw (q, e) (sym (append_snoc (digits j (n / 16)) (glyph (n % 16)) (drop (suc j) text)))
 
 glyph_of : (d : ℕ) → digit_glyph true d ≡ glyph d
 unfolding when◌then◌else◌

@@ -178,6 +178,7 @@ fn read_records<'a>(nodes: &'a [u8], constraints: &'a [u8]) -> Result<Records<'a
 pub fn read(file: &[u8]) -> Result<Problem<'_>, Refusal>
     ensures refusal { refusal_of result ≡ refusal file.now }
     ensures problem { IfOk result (λ p. read_file file.now ≡ Accepted (the_constraint p.records) (intervals_of p.bounds)) }
+    ensures records { IfOk result (λ p. Holds (nodes_of file.now) (constraints_of file.now) p.records) }
 {
     let house = House::new(file)?;
     let records = read_records(house.nodes(), house.constraints())?;

@@ -1,7 +1,7 @@
 -- Laws of two lists of ends, and of the starting boxes. Assumes nothing.
 use Rattle.std.specs.Prelude.{ℕ, zero, suc, ◌<◌, ◌≤◌, ◌≡◌, refl, true, ◌&&◌, List, [], ◌∷◌, ◌++◌, leb, eqb, length, get_or, set, take, drop, replicate, Float, ◌-◌, ◌+◌}
 use Rattle.std.proofs.Math.Path.{sym}
-use Rattle.std.proofs.Common.{ap, ◌∙◌, le_of_suc-le-suc, not-suc-le-zero, arith, take_at, length-append, length-set, length-take, length-take-le}
+use Rattle.std.proofs.Common.{ap, ◌∙◌, le_of_suc-le-suc, not-suc-le-zero, arith, take_at, length-append, length-set, length-take, length-take-le, get_or-take}
 use borrow.Author.Tests.{eqb-true, leb-true}
 use Rattle.std.proofs.lemmas.List.{take_more, length-map, length-replicate, set-append_left, replicate-append-replicate, take-replicate, drop-replicate}
 use Rattle.std.proofs.Math.Seq.{take-set-lt, set_at, append_snoc}
@@ -9,8 +9,10 @@ use Rattle.std.specs.Float.{nan}
 use Rattle.number.specs.Notation.{whole}
 use Rattle.interval.specs.Interval.{◌‥◌, midpoint}
 use Rattle.record.specs.RefusalLaws.{both}
-use Rattle.interval.specs.Boxes.{intervals, lows, highs, starting, midpoints, padded, all_sound, are_paired, are_boxes}
+use Rattle.interval.specs.Boxes.{intervals, lows, highs, missing, starting, midpoints, padded, all_sound, are_paired, are_boxes}
 use Rattle.interval.specs.declared.Interval.{Interval}
+use Rattle.interval.specs.declared.domain.Domain.{Domain}
+use Rattle.interval.specs.Views.{intervals_of}
 
 pub intervals_at : (lo hi : List Float) (j : ℕ) (d : Interval) → length hi ≡ length lo → j < length lo → (get_or lo j nan ‥ get_or hi j nan) ≡ get_or (intervals lo hi) j d
 unfolding intervals
@@ -38,6 +40,13 @@ intervals_set (x ∷ lo) [] zero a b = refl
 intervals_set (x ∷ lo) [] (suc j) a b = refl
 intervals_set (x ∷ lo) (y ∷ hi) zero a b = refl
 intervals_set (x ∷ lo) (y ∷ hi) (suc j) a b = ap (λ (r : List Interval). (x ‥ y) ∷ r) (intervals_set lo hi j a b)
+
+pub intervals_take : (n : ℕ) (lo hi : List Float) → intervals (take n lo) (take n hi) ≡ take n (intervals lo hi)
+unfolding intervals
+intervals_take zero lo hi = refl
+intervals_take (suc n) [] hi = refl
+intervals_take (suc n) (a ∷ lo) [] = refl
+intervals_take (suc n) (a ∷ lo) (b ∷ hi) = ap (λ (r : List Interval). (a ‥ b) ∷ r) (intervals_take n lo hi)
 
 -- the ends of boxes, as boxes again
 pub of_ends : (is : List Interval) → intervals (lows is) (highs is) ≡ is
@@ -72,11 +81,49 @@ module _ (lo hi : List Float) where
   unfolding are_boxes
   boxes_all_sound e = (both (are_paired lo hi) (all_sound (intervals lo hi)) e).1
 
+-- the first n of each
+pub first_length : (n : ℕ) (lo hi : List Float) → n ≤ length lo → length hi ≡ length lo → length (intervals (take n lo) (take n hi)) ≡ n
+first_length n lo hi h e =
+    let l = length-take-le n lo h in
+    intervals_length (take n lo) (take n hi) (length-take-le n hi (omega arith) ∙ sym l) ∙ l
+
+pub first_at : (n : ℕ) (lo hi : List Float) (j : ℕ) (d : Interval) → n ≤ length lo → length hi ≡ length lo → j < n → (get_or lo j nan ‥ get_or hi j nan) ≡ get_or (intervals (take n lo) (take n hi)) j d
+first_at n lo hi j d h e l =
+    let x = length-take-le n lo h in
+    let y = length-take-le n hi (omega arith) in
+    rw (← get_or-take n lo j nan l, ← get_or-take n hi j nan l) (intervals_at (take n lo) (take n hi) j d (y ∙ sym x) (omega arith))
+
+pub first_set : (n : ℕ) (lo hi : List Float) (j : ℕ) (a b : Float) → j < n → intervals (take n (set lo j a)) (take n (set hi j b)) ≡ set (intervals (take n lo) (take n hi)) j (a ‥ b)
+first_set n lo hi j a b h = rw (take-set-lt n lo j a h, take-set-lt n hi j b h) (intervals_set (take n lo) (take n hi) j a b)
+
+pub starting_more : (n : ℕ) (bounds : List Interval) → starting (suc n) bounds ≡ starting n bounds ++ get_or bounds n missing ∷ []
+unfolding starting
+starting_more zero [] = refl
+starting_more zero (b ∷ bounds) = refl
+starting_more (suc n) [] = ap (λ (r : List Interval). missing ∷ r) (starting_more n [])
+starting_more (suc n) (b ∷ bounds) = ap (λ (r : List Interval). b ∷ r) (starting_more n bounds)
+
+pub starting_length : (n : ℕ) (bounds : List Interval) → length (starting n bounds) ≡ n
+unfolding starting
+starting_length zero bounds = refl
+starting_length (suc n) [] = ap suc (starting_length n [])
+starting_length (suc n) (b ∷ bounds) = ap suc (starting_length n bounds)
+
 -- as many as there are bounds
 pub starting_all : (bounds : List Interval) → starting (length bounds) bounds ≡ bounds
 unfolding starting
 starting_all [] = refl
 starting_all (b ∷ bounds) = ap (λ (r : List Interval). b ∷ r) (starting_all bounds)
+
+pub all_there : (lo hi : List Float) → are_paired lo hi ≡ true → {b : List Interval} → b ≡ starting (length lo) (intervals lo hi) → b ≡ intervals lo hi
+all_there lo hi e q = q ∙ ap (λ (n : ℕ). starting n (intervals lo hi)) (sym (intervals_length lo hi (as_many lo hi e))) ∙ starting_all (intervals lo hi)
+
+-- ---- boxes by value
+pub boxes_length : (d : Domain) → length d.boxes ≡ 16 → length (intervals_of d) ≡ d.count.n
+boxes_length d e = let few = d.count.few in length-take-le d.count.n d.boxes (omega arith)
+
+pub boxes_at : (d : Domain) (j : ℕ) → j < d.count.n → get_or d.boxes j missing ≡ get_or (intervals_of d) j missing
+boxes_at d j l = sym (get_or-take d.count.n d.boxes j missing l)
 
 -- ---- the midpoints
 pub midpoints_length : (b : List Interval) → length (midpoints b) ≡ length b

@@ -3,6 +3,8 @@ pub mod Boxes
 pub mod Domain
 pub mod Views
 pub mod BoxLaws
+pub mod PlacesLaws
+pub mod DomainLaws
 pub mod Choices
 pub mod Inside
 pub mod Computing

@@ -128,7 +128,8 @@ impl Domain {
     // The number of the last widest box, and 0 where there is none.
     #[tactic(auto, using(crate::proofs::Loops::shorter), unfolding(crate::specs::Boxes::widest_from, crate::specs::Boxes::widest, number::specs::Computing::computing))]
     pub fn widest(&self) -> usize
-        ensures { result ≡ widest (intervals_of self.now) }
+        ensures value { result ≡ widest (intervals_of self.now) }
+        ensures inside { 0 < self.now.count.n → result < self.now.count.n }
     {
         let boxes = self.as_slice();
         let Some(first) = boxes.first() else {

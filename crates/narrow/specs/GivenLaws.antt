@@ -13,9 +13,13 @@ use Rattle.file.specs.FileLaws.{given_refused}
 use Rattle.narrow.specs.Given.{Given, tested}
 
 module _ {B : Type 0} (nodes constraints : List ℕ) (b : B) (next : Constraint → Given B) where
-  pub records_refused : (r : Refusal) (t : Bool) → number_of r ≡ given_refusal nodes constraints → (Err (number_of r) leaving b) ≡ tested (read_given nodes constraints) t b next
+  pub records_refused : (r : ℕ) (t : Bool) → r ≡ given_refusal nodes constraints → (r ≡ 0 → ⊥) → (Err r leaving b) ≡ tested (read_given nodes constraints) t b next
   unfolding tested
-  records_refused r t e = sym (ap (λ (x : Read). tested x t b next) (given_refused nodes constraints (number_of r) e (never_none r)))
+  records_refused r t e h = sym (ap (λ (x : Read). tested x t b next) (given_refused nodes constraints r e h))
+
+  -- as a test answers it
+  pub refused_with : (r : Refusal) (t : Bool) → number_of r ≡ given_refusal nodes constraints → (Err (number_of r) leaving b) ≡ tested (read_given nodes constraints) t b next
+  refused_with r t e = records_refused (number_of r) t e (never_none r)
 
   module _ {c : Constraint} (e : read_given nodes constraints ≡ Read.Accepted c []) where
     pub boxes_refused : (r : Refusal) (t : Bool) → number_of r ≡ (9 unless t) → (Err (number_of r) leaving b) ≡ tested (read_given nodes constraints) t b next
@@ -27,4 +31,4 @@ module _ {B : Type 0} (nodes constraints : List ℕ) (b : B) (next : Constraint 
     unfolding tested
     boxes_taken h k = rw (e, h) k
 
-pub ruleset refusals = (err_from_is_err_and, records_refused, boxes_refused)
+pub ruleset refusals = (err_from_is_err_and, refused_with, boxes_refused)

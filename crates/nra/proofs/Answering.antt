@@ -8,7 +8,6 @@ use Rattle.interval.specs.declared.Interval.{Interval}
 use Rattle.interval.specs.Boxes.{starting}
 use Rattle.constraint.specs.Constraint.{num_vars}
 use Rattle.constraint.specs.Views.{the_constraint}
-use Rattle.constraint.specs.RecordLaws.{one_left}
 use Rattle.constraint.specs.VarLaws.{vars_few}
 use Rattle.constraint.specs.declared.records.Records.{Records}
 use Rattle.point.specs.Check.{check}
@@ -17,7 +16,7 @@ use Rattle.nra.specs.Answers.{tried, tried_in}
 
 -- of records that passed, at most 16 variables
 pub few_vars : (r : Records) → num_vars (the_constraint r) ≤ 16
-few_vars r = vars_few r (r.count - 1) (omega (arith, (one_left r).0))
+few_vars r = vars_few r (r.count - 1) (omega (arith, r.some))
 
 -- ---- the whole
 module _ (σ : Settings) (p : Problem) (bounds : List Interval) where

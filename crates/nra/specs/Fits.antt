@@ -1,16 +1,16 @@
 -- A point has no more values than its problem has variables, so no more than there is room for. Assumes nothing.
-use Rattle.std.specs.Prelude.{◌≡◌, ℕ, zero, suc, ◌≤◌, Bool, true, false, List, [], ◌∷◌, length, Float, Result, Ok, Err, IfOk}
-use Rattle.std.proofs.Common.{refl, ap, arith, leb-true}
+use Rattle.std.specs.Prelude.{◌≡◌, ℕ, zero, suc, ◌≤◌, Bool, true, false, List, [], length, Float, Result, Ok, Err, IfOk}
+use Rattle.std.proofs.Common.{refl, arith, leb-true}
 use Rattle.record.specs.Refusal.{refused_or}
 use Rattle.record.specs.RefusalLaws.{none_both, none_unless}
 use Rattle.settings.specs.declared.Settings.{Settings}
 use Rattle.interval.specs.declared.Interval.{Interval}
-use Rattle.interval.specs.Boxes.{starting, intervals}
-use Rattle.interval.specs.BoxLaws.{midpoints_length}
+use Rattle.interval.specs.Boxes.{intervals}
+use Rattle.interval.specs.BoxLaws.{starting_length, midpoints_length}
 use Rattle.constraint.specs.Constraint.{Constraint, num_vars}
 use Rattle.file.specs.File.{Read, Refused, Accepted, read_file, read_given}
 use Rattle.nra.specs.Solver.{Problem, Answer, assignment, failed, State, Progress, Stopped, Going, begin_checked, begin_narrowed, begin_in, begin_empty, begin_at, begin, halved, settle_checked, settle_narrowed, settle_in, halve, steps, finish, run, untried, solve}
-use Rattle.nra.specs.Answers.{problem}
+use Rattle.nra.specs.Answers.{problem, tried}
 use Rattle.nra.specs.Calls.{limit_refusal, boxes_refusal, room_refusal, answered_by, solve_file, solve_given}
 use Rattle.nra.specs.Widths.{propagate_keeps, halved_keeps}
 
@@ -56,7 +56,7 @@ module _ (σ : Settings) (p : Problem) (n : ℕ) where
   unfolding halve settle_in
   halve_few s l = settle_narrowed_few _ _ _ (omega (arith, propagate_keeps σ p.constraint (halved σ p.constraint s.boxes), halved_keeps σ p.constraint s.boxes))
 
-  run_few : (limit : ℕ) (g : Progress) → Within g → Few (run σ p limit g)
+  pub run_few : (limit : ℕ) (g : Progress) → Within g → Few (run σ p limit g)
   unfolding run steps finish
   run_few zero (Stopped a) w = w
   run_few zero (Going s) w = omega arith
@@ -69,15 +69,15 @@ module _ (σ : Settings) (p : Problem) (n : ℕ) where
   untried_few (suc v) (assignment m exact h) f = f
   untried_few (suc v) (failed w r h) f = f
 
--- ---- the whole
-starting_length : (n : ℕ) (bounds : List Interval) → length (starting n bounds) ≡ n
-unfolding starting
-starting_length zero bounds = refl
-starting_length (suc n) [] = ap suc (starting_length n [])
-starting_length (suc n) (b ∷ bounds) = ap suc (starting_length n bounds)
+  -- where a run has ended, under a limit
+  pub ended_few : (limit : ℕ) (g : Progress) → Within g → Few (tried limit (finish σ p g))
+  unfolding tried run steps
+  ended_few zero g w = untried_few 1 (finish σ p g) (run_few zero g w)
+  ended_few (suc limit) g w = run_few zero g w
 
+-- ---- the whole
 module _ (σ : Settings) (p : Problem) (bounds : List Interval) where
-  begin_empty_few : (passes : Bool) → Within σ p 0 (Stopped (begin_empty passes))
+  pub begin_empty_few : (passes : Bool) → Within σ p 0 (Stopped (begin_empty passes))
   unfolding begin_empty
   begin_empty_few true = omega arith
   begin_empty_few false = omega arith

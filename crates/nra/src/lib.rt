@@ -13,6 +13,7 @@ ghost use Rattle.constraint.specs.Views.{the_constraint};
 ghost use Rattle.point.specs.Check.{check};
 ghost use Rattle.nra.specs.Answers.{asked, answer_of, answered};
 ghost use Rattle.nra.specs.Calls.{answered_in, solve_file, solve_given};
+ghost use Rattle.nra.specs.Fits.{Fits};
 ghost use Rattle.nra.specs.Solver.{begin_empty, solve as solve_of};
 
 pub use answer::{Solved, Stop};
@@ -59,7 +60,8 @@ fn solve_in(task: &Task, bounds: &Domain, count: Count, stack: &mut Stack) -> So
 // Where there are places for a point: else 10.
 #[tactic(auto, using(crate::proofs::Answering::few_vars), unfolding(crate::specs::Calls::room_refusal))]
 fn solve_task(task: &Task, bounds: &Domain, room: usize) -> Result<Solved, Refusal>
-    ensures { answered result ≡ answered_in task.now.settings (asked task.now) (intervals_of bounds.now) task.now.limit room }
+    ensures answer { answered result ≡ answered_in task.now.settings (asked task.now) (intervals_of bounds.now) task.now.limit room }
+    ensures fits { Fits room (answered result) }
 {
     let n = task.records.constraint().num_vars();
     if room < n {
@@ -73,7 +75,8 @@ fn solve_task(task: &Task, bounds: &Domain, room: usize) -> Result<Solved, Refus
 // Solves a house file. `room` is how many places the caller has for the point.
 #[tactic(auto, using(file::specs::FileLaws::file_refused, record::specs::RefusalLaws::never_none, record::specs::RefusalLaws::refuses, record::specs::RefusalLaws::refuses_first), unfolding(crate::specs::Calls::solve_file))]
 pub fn solve_file(file: &[u8], limit: usize, tolerance: f64, room: usize) -> Result<Solved, Refusal>
-    ensures { answered result ≡ solve_file usual file.now limit tolerance room }
+    ensures answer { answered result ≡ solve_file usual file.now limit tolerance room }
+    ensures fits { Fits room (answered result) }
 {
     let Problem { records, bounds } = file::read(file)?;
     let task = Task::new(records, limit, tolerance)?;
@@ -91,7 +94,8 @@ pub fn solve(
     tolerance: f64,
     room: usize,
 ) -> Result<Solved, Refusal>
-    ensures { answered result ≡ solve_given usual nodes.now constraints.now lo.now hi.now limit tolerance room }
+    ensures answer { answered result ≡ solve_given usual nodes.now constraints.now lo.now hi.now limit tolerance room }
+    ensures fits { Fits room (answered result) }
 {
     let records = file::read_given(nodes, constraints)?;
     let task = Task::new(records, limit, tolerance)?;

@@ -1,7 +1,7 @@
 // A run (document 01; nra.rs): all before the first halving, a halving with all that follows it, and many of them.
 #![tactic(auto, using(crate::proofs::Steps::tried_failed), unfolding(crate::specs::Solver::begin_in, crate::specs::Solver::begin_narrowed, crate::specs::Solver::begin_checked, crate::specs::Solver::settle_in, crate::specs::Solver::settle_narrowed, crate::specs::Solver::settle_checked, crate::specs::Solver::halve, crate::specs::Solver::distance, crate::specs::Solver::run, crate::specs::Solver::finish, crate::specs::Answers::tried, number::specs::Computing::computing))]
 
-ghost use Rattle.std.specs.Prelude.{◌≡◌, ◌<◌};
+ghost use Rattle.std.specs.Prelude.{◌≡◌, ◌-◌, ◌<◌};
 
 use super::answer::{Solved, Stop};
 use super::halving::Task;
@@ -23,8 +23,8 @@ impl<'a> Task<'a> {
     ghost use Rattle.std.specs.ControlFlow.{MatchControlFlow};
     ghost use Rattle.interval.specs.Views.{intervals_of};
     ghost use Rattle.constraint.specs.Views.{the_constraint};
-    ghost use Rattle.nra.specs.Answers.{asked, answer_of, state_of, progress_of, Narrows, Conflicts, tried_in};
-    ghost use Rattle.nra.specs.Solver.{begin_in, settle_in, halve, steps};
+    ghost use Rattle.nra.specs.Answers.{asked, answer_of, state_of, progress_of, Narrows, Conflicts, tried, tried_in};
+    ghost use Rattle.nra.specs.Solver.{Going, begin_in, settle_in, halve, steps, finish};
 
     // The narrowed boxes and their midpoint, unless narrowing meets a conflict.
     fn narrow(&self, start: Domain, halvings: usize) -> ControlFlow<Solved, (Domain, Point)>
@@ -93,21 +93,30 @@ impl<'a> Task<'a> {
 
     // Halves until the run breaks off or has made as many halvings as its limit.
     #[tactic(auto, using(crate::proofs::Steps::run_steps))]
-    pub fn steps(&self, start: Domain, stack: &mut Stack) -> ControlFlow<Solved, State>
-        ensures { progress_of result ≡ steps self.now.settings (asked self.now) self.now.limit (begin_in self.now.settings (asked self.now) (intervals_of start)) }
+    pub fn run_to(&self, state: State, stack: &mut Stack) -> ControlFlow<Solved, State>
+        ensures { progress_of result ≡ steps self.now.settings (asked self.now) (self.now.limit - state.halvings) (Going (state_of state)) }
     {
-        let mut state = self.begin(start, stack)?;
-        for _ in 0..self.limit {
+        let mut state = state;
+        for _ in state.halvings..self.limit {
             state = self.halve(state, stack)?;
         }
         Continue(state)
     }
 
     // From the starting boxes.
-    pub fn run(&self, start: Domain, stack: &mut Stack) -> Solved
-        ensures { answer_of result ≡ tried_in self.now.settings (asked self.now) self.now.limit (intervals_of start) }
+    #[tactic(auto, using(crate::proofs::Steps::run_steps))]
+    pub fn steps(&self, start: Domain, stack: &mut Stack) -> ControlFlow<Solved, State>
+        ensures { progress_of result ≡ steps self.now.settings (asked self.now) self.now.limit (begin_in self.now.settings (asked self.now) (intervals_of start)) }
     {
-        match self.steps(start, stack) {
+        let state = self.begin(start, stack)?;
+        self.run_to(state, stack)
+    }
+
+    // What goes on has reached the limit. Under limit 0 no point is exact.
+    pub fn answer(&self, progress: ControlFlow<Solved, State>, stack: &mut Stack) -> Solved
+        ensures { answer_of result ≡ tried self.now.limit (finish self.now.settings (asked self.now) (progress_of progress)) }
+    {
+        match progress {
             Break(solved) => {
                 if self.limit == 0 {
                     return solved.untried();
@@ -120,5 +129,13 @@ impl<'a> Task<'a> {
                 halvings: state.halvings,
             },
         }
+    }
+
+    // The whole.
+    pub fn run(&self, start: Domain, stack: &mut Stack) -> Solved
+        ensures { answer_of result ≡ tried_in self.now.settings (asked self.now) self.now.limit (intervals_of start) }
+    {
+        let progress = self.steps(start, stack);
+        self.answer(progress, stack)
     }
 }

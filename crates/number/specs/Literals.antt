@@ -16,7 +16,7 @@ pub two_is : bits 0x4000_0000_0000_0000 ≡ whole 2
 unfolding of_bits of_int
 two_is = refl
 
--- 1.0 / 0.0 and -1.0 / 0.0
+-- 1.0 / 0.0, -1.0 / 0.0 and 0.0 / 0.0
 pub infinite : div binary64 (bits 0x3ff0_0000_0000_0000) (bits 0) ≡ +∞
 unfolding div of_bits
 infinite = refl
@@ -24,6 +24,10 @@ infinite = refl
 pub minus_infinite : div binary64 (neg (bits 0x3ff0_0000_0000_0000)) (bits 0) ≡ -∞
 unfolding div of_bits neg
 minus_infinite = refl
+
+pub undefined : div binary64 (bits 0) (bits 0) ≡ nan
+unfolding div of_bits
+undefined = refl
 
 -- f64::INFINITY, f64::NEG_INFINITY and f64::NAN
 pub infinity_is : bits 0x7ff0_0000_0000_0000 ≡ +∞

@@ -1,11 +1,12 @@
 -- `next_up` and `next_down` of IEEE 754, clause 5.3.1: the least value of the format above x, and the greatest below it. And what they are at zero.
 -- The patterns of the values that are not negative are in the values' order, so a neighbour is the next pattern up or down. Assumes nothing.
 use Rattle.std.specs.Prelude.{◌≡◌, ℕ, zero, suc, ◌+◌, ◌-◌, ◌*◌, ◌%◌, ◌^◌, ◌<◌, ◌≤◌, Bool, true, false, not, T, ℤ, pos, negsuc, from_bits, refl, Float}
-use Rattle.std.proofs.Common.{sym, subst, ⊎_elim, zero-lt-suc, zero-mul, mul-pos, mul-le-mul, lt_of_le_of_lt, not-le_of_lt, arith, lit<}
+use Rattle.std.proofs.Common.{sym, subst, ⊎_elim, zero-lt-suc, zero-mul, mul-pos, mul-le-mul, le_antisymm, lt_of_le_of_lt, not-le_of_lt, arith, lit<}
+use Prim.Native.Nat.{zero-le}
 use Rattle.std.proofs.Math.Nat.{mod-le}
 use Rattle.std.proofs.Math.Arith.{le→nltb, lt_of_le-ne}
 use Rattle.std.specs.Float.{nan, inf, fin, Format, binary32, binary64}
-use Rattle.std.specs.Float.Ieee.{low, up, down, neg, lt, le, is_nan, nan_bits, fits, to_bits, hid, ones, top}
+use Rattle.std.specs.Float.Ieee.{low, up, down, neg, lt, le, eq, is_nan, nan_bits, fits, to_bits, hid, ones, top}
 use Rattle.std.specs.Float.Ieee.Fits.{up_pos, neg-fits, inf-fits}
 use Rattle.std.specs.Float.Ieee.Bits.{to_bits-of_bits, of_bits-fits, nan_bits_is, nan_bits_above}
 use Rattle.number.specs.Signed.{⊑→le, lt→⊏, ⊏→lt}
@@ -254,3 +255,59 @@ unfolding next_down
 next_down_greatest f x y h k l =
     subst (λ (z : Float). T (le z (neg (next_up f (neg x))))) (neg_neg y)
     (neg_le (next_up f (neg x)) (neg y) (next_up_least f (neg x) (neg y) (neg-fits f x h) (neg-fits f y k) (neg_lt y x l)))
+
+-- ---- `next_up` by the tests that code makes
+pub next_up_nan : (f : Format) (x : Float) → T (is_nan x) → next_up f x ≡ x
+unfolding next_up is_nan
+next_up_nan f nan h = refl
+next_up_nan f (inf s) h = absurd h
+next_up_nan f (fin s m e) h = absurd h
+
+pub next_up_at_zero : (f : Format) (x : Float) → T (eq x naught) → next_up f x ≡ tiny f
+unfolding next_up
+next_up_at_zero f nan h = unfold eq in absurd h
+next_up_at_zero f (inf s) h = unfold eq in absurd h
+next_up_at_zero f (fin s zero e) h = refl
+next_up_at_zero f (fin false (suc m) e) h = absurd (le→not_lt (fin false (suc m) e) naught (eq→le (fin false (suc m) e) naught h) (above_zero m e))
+next_up_at_zero f (fin true (suc m) e) h =
+    let x = fin true (suc m) e in
+    absurd (le→not_lt naught x (eq→le naught x (eq_sym x naught h)) (below_zero m e))
+
+pub next_up_positive : (f : Format) (x : Float) → T (lt naught x) → T (lt x (inf false)) → next_up f x ≡ after f x
+unfolding next_up lt
+next_up_positive f nan h k = absurd h
+next_up_positive f (inf true) h k = absurd h
+next_up_positive f (inf false) h k = absurd k
+next_up_positive f (fin s zero e) h k = absurd (le→not_lt (fin s 0 e) naught (eq→le (fin s 0 e) naught (zero_is s 0 e (zero-mul (up e)))) h)
+next_up_positive f (fin false (suc m) e) h k = refl
+next_up_positive f (fin true (suc m) e) h k = absurd h
+
+pub next_up_negative : (f : Format) (x : Float) → T (lt x naught) → next_up f x ≡ neg (before f (neg x))
+unfolding next_up neg
+next_up_negative f nan h = absurd (subst T (lt_nan_left naught) h)
+next_up_negative f (inf true) h = refl
+next_up_negative f (inf false) h = absurd (le→not_lt naught (inf false) (unfold le in tt) h)
+next_up_negative f (fin s zero e) h = absurd (le→not_lt naught (fin s 0 e) (eq→le naught (fin s 0 e) (eq_sym (fin s 0 e) naught (zero_is s 0 e (zero-mul (up e))))) h)
+next_up_negative f (fin false (suc m) e) h = absurd (le→not_lt naught (fin false (suc m) e) (lt→le naught (fin false (suc m) e) (above_zero m e)) h)
+next_up_negative f (fin true (suc m) e) h = refl
+
+pub next_up_inf : (f : Format) → next_up f (inf false) ≡ inf false
+unfolding next_up
+next_up_inf f = refl
+
+-- the patterns of x above zero, and of -x for x below
+positive_signless : (x : Float) → T (lt naught x) → T (signless x)
+positive_signless x l = signless_above 0 (pos 0) x l
+
+pub negative_bits : (f : Format) (x : Float) → T (fits f x) → T (lt x naught) → (0 < to_bits f (neg x)) × (to_bits f (neg x) ≤ to_bits f (inf false))
+negative_bits f x h l =
+    let l' = le_lt_trans naught (neg naught) (neg x) (unfold neg in zeros_le false true) (neg_lt x naught l) in
+    let s = positive_signless (neg x) l' in
+    let h' = neg-fits f x h in
+    (lt_of_le_of_lt zero-le (bits_lt f naught (neg x) (naught_fits f) h' tt s l'), top_of f (neg x) h' s (lt_right naught (neg x) l'))
+
+pub below_inf : (f : Format) (x : Float) → T (fits f x) → T (lt naught x) → to_bits f x < to_bits f (inf false) → T (lt x (inf false))
+below_inf f x h l b = of_bits f x (inf false) h (inf-fits f false) (positive_signless x l) tt (lt_right naught x l) (unfold is_nan in tt) b
+
+pub is_inf : (f : Format) (x : Float) → T (fits f x) → T (lt naught x) → to_bits f (inf false) ≤ to_bits f x → x ≡ inf false
+is_inf f x h l b = bits_inj f x (inf false) h (inf-fits f false) (le_antisymm (top_of f x h (positive_signless x l) (lt_right naught x l)) b)

@@ -1,11 +1,12 @@
 -- What an exported call leaves in the lent places, from what the function behind it answers. Assumes nothing.
-use Rattle.std.specs.Prelude.{◌≡◌, refl, ℕ, ◌+◌, ◌≤◌, ◌<◌, Bool, true, false, List, [], leb, Float, length, take, Result, Ok, Err}
+use Rattle.std.specs.Prelude.{◌≡◌, refl, ℕ, ◌+◌, ◌≤◌, ◌<◌, Bool, true, false, List, leb, Float, length, take, Result, Ok, Err}
 use Rattle.std.proofs.Common.{sym, ap, ◌∙◌, subst, arith, leb-true, leb-false}
 use Rattle.std.proofs.Math.Seq.{paste, take-paste, take-length}
 use Rattle.record.specs.Leaving.{Leaving}
 use Rattle.interval.specs.declared.Interval.{Interval}
 use Rattle.narrow.specs.declared.PropResult.{PropResult}
 use Rattle.nra.specs.Solver.{conflict, tolerance, limit, unsatisfied, Answer, assignment, failed, halvings_of, reached}
+use Rattle.nra.specs.Fits.{point_of}
 use Rattle.eml.specs.Answers.{number_of, writing, propagated}
 use Rattle.eml.specs.Places.{Solution, solution_of, solved}
 use Rattle.promises.specs.Received.{Settled, Counted}
@@ -77,12 +78,7 @@ halvings_left : (a : Answer) (places : List Float) → (solution_of a places).ha
 halvings_left (assignment m exact h) places = refl
 halvings_left (failed w r h) places = refl
 
--- the values of an answer's point
-abbrev values_of : Answer → List Float
-values_of (assignment m exact h) = m
-values_of (failed w r h) = []
-
-values_left : (a : Answer) (places : List Float) → values_in (solution_of a places) ≡ values_of a
+pub values_left : (a : Answer) (places : List Float) → values_in (solution_of a places) ≡ point_of a
 values_left (assignment m exact h) places =
     let z : length m ≡ 0 + length m = omega arith in
     ap (λ (k : ℕ). take k (paste places 0 m (length m))) z ∙ take-paste places 0 m (length m) (omega arith) (omega arith) ∙ take-length m

@@ -41,13 +41,17 @@ fn is_same(solved: &Solved, head: &[u8; 176]) -> bool {
     short & long & is_same_point
 }
 
-// Reads the file, and solves it. Byte 8 has the limit, 16 the tolerance.
+// Reads the file, and solves it. Byte 8 has the limit, 16 the tolerance. A refusal is its number only: the stop word is
+// then unsatisfied's, and the rest 0.
 fn replays<R: Read>(reader: &mut R, file: &mut [u8], head: &[u8; 176]) -> bool {
     let (got, _) = input::read_full(reader, file);
     let limit = record::read_u64(head, 8) as usize;
     match nra::solve_file(&file[..got], limit, record::read_f64(head, 16), 16) {
         Ok(solved) => is_same(&solved, head),
-        Err(refusal) => head[5] == u8::from(refusal),
+        Err(refusal) => {
+            let stop = (head[6] == nra::Stop::Unsatisfied as u8) & (head[7] == 0);
+            (head[5] == u8::from(refusal)) & stop & head[24..].iter().all(|b| *b == 0)
+        }
     }
 }
 

@@ -226,7 +226,7 @@ fn test_within<const N: usize>(nodes: &[u8], count: usize) -> Result<usize, Refu
     test_nodes(nodes, count, &mut extents)
 }
 
-// The tests of a list, and the size of its largest tree. A short array is quicker to clear.
+// The tests of a list, and the size of its largest tree, which a caller may want for a bound on its work. A short array is quicker to clear.
 pub fn test_sizes(nodes: &[u8], count: usize) -> Result<usize, Refusal>
     ensures refusal { refusal_of result ≡ list_refusal nodes.now count }
     ensures value { IfOk result (λ m. m ≡ largest nodes.now count) }
