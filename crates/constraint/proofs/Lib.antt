@@ -1,3 +1,3 @@
 pub mod Testing
-pub mod Outcomes
+pub mod Putting
 pub mod Taking

@@ -8,8 +8,7 @@ use lib.Ieee.{Float}
 use lib.ListN.{length, length-append}
 use lib.Seq.{length-take-le}
 use Rattle.std.proofs.lemmas.List.{drop-take}
-use Rattle.record.specs.Refusal.{first}
-use Rattle.constraint.specs.Records.{takes, finished, formula_at, records_refusal}
+use Rattle.constraint.specs.Records.{takes, finished, formula_at}
 use Rattle.constraint.specs.Starts.{start_at}
 use Rattle.constraint.specs.StartLaws.{chain, start_below, height_below, start_before, start_of, start_none, start_next}
 use Rattle.constraint.specs.Views.{record_of}
@@ -17,11 +16,6 @@ use Rattle.constraint.specs.RecordLaws.{taken_here, none_taken, up_to_lem, insid
 use Rattle.constraint.specs.VarLaws.{named}
 use Rattle.constraint.specs.declared.Record.{Record}
 use Rattle.constraint.specs.declared.records.Records.{Records}
-
--- of no records nothing is left
-pub none_left : (n : ℕ) (b : List ℕ) (m : ℕ) → m ≡ 0 → records_refusal n b m ≡ 7
-unfolding records_refusal first finished
-none_left n b m e = rw e refl
 
 pub one_fewer : (b : List ℕ) (n : ℕ) → 0 < n → length (finished b n) ≡ length (finished b (start_at b (n - 1))) + 1
 one_fewer b n h =
@@ -40,7 +34,7 @@ module _ (r : Records) (k : ℕ) (l : k < r.count) where
   pub named_forall : (v : ℕ) (lo hi : Float) → record_of r k ≡ Record.ForAll v lo hi → (v < 16) × (k - 1 < k)
   named_forall v lo hi e = (named r k l (Record.ForAll v lo hi) e, omega (arith, (inside r k l (Record.ForAll v lo hi) e refl).0))
 
-pub ruleset shapes = (inside, not_inside, named_forall, named_exists, atom_node, at_atom, at_not, at_and, and_taken, at_or, or_taken, at_forall, at_exists)
+pub ruleset shapes = (not_inside, named_forall, named_exists, atom_node, at_atom, at_not, at_and, and_taken, at_or, or_taken, at_forall, at_exists)
 
 -- a part of a list
 pub ruleset parts = (length-take-le, drop-take)

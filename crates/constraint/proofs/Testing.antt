@@ -1,7 +1,7 @@
 -- What the tests of the records know of the constraints that are finished. Assumes nothing.
 use Prim.Native.Nat.{ℕ, zero, suc, ◌+◌, ◌-◌, max, ◌≤◌, ◌<◌}
 use mathlib.Core.Path.{◌≡◌, refl, sym, ap, ap₂, ◌∙◌}
-use mathlib.Core.Bool.{Bool, true, false, ◌&&◌}
+use mathlib.Core.Bool.{true, false, ◌&&◌}
 use mathlib.Core.List.{List, [], ◌∷◌, ◌++◌, map, map-append}
 use native.Mathlib.Numerals.{add-one}
 use Rattle.std.proofs.Common.{fold}
@@ -74,16 +74,6 @@ quantifiers_is (Record.Exists v lo hi) cs e = omega (arith, one_taken quantifier
 abbrev Within : ℕ → ℕ → ℕ
 Within d q = 7 unless leb d 16 && leb q 4
 
-pub too_deep : (d q : ℕ) → 16 < d → 7 ≡ Within d q
-too_deep d q l = rw (lt-leb d 16 l)
-
-pub too_many : (d q : ℕ) → 4 < q → 7 ≡ Within d q
-too_many d q l = rw (lt-leb q 4 l) (elim (leb d 16) as (λ (t : Bool). 7 ≡ 7 unless t && false) [ true ↦ refl | false ↦ refl ])
-
-pub shallow : (d q : ℕ) → d ≤ 16 → q ≤ 4 → 0 ≡ Within d q
-shallow d q l h = rw (le-leb d 16 l, le-leb q 4 h)
-
--- ---- before record k: none was refused, and the stack has what is kept of each finished constraint
 pub none_yet : (n : ℕ) (b : List ℕ) → first (record_refusal n b) 0 ≡ 0
 unfolding first
 none_yet n b = refl

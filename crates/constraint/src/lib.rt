@@ -256,7 +256,7 @@ fn words_of(r: Record) -> Words
 
 // Record number `at`; the answer is the number of the next. (A list and a number, and no writer that has both: it would be lent through each call
 // of the normal form with what it has written.)
-#[tactic(auto, using(crate::specs::PutLaws::puts_one, crate::proofs::Outcomes::record_words))]
+#[tactic(auto, using(crate::specs::PutLaws::puts_one, crate::proofs::Putting::record_words))]
 pub fn write_record(out: &mut [u8], at: usize, r: Record) -> usize
     requires { Writable 1024 r × (24 * (at + 1) ≤ length out.old) }
     ensures { Puts (old out) (final out) at result (r ∷ []) }
@@ -273,7 +273,7 @@ pub fn write_record(out: &mut [u8], at: usize, r: Record) -> usize
 // ---- the comparisons
 
 // `lt`, `le`, `gt` or `ge`, by the relation: x - y is appended to the list of count nodes, and the atom's record on it is written to out.
-#[tactic(auto, using(crate::proofs::Outcomes::comparing))]
+#[tactic(auto, using(tree::specs::CanonicalLaws::sub_accepted), unfolding(crate::specs::Comparison::compared, crate::specs::Comparison::compare_refusal, crate::specs::Encoding::records_bytes))]
 pub fn compare(
     nodes: &mut [u8],
     count: usize,

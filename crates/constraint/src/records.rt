@@ -81,7 +81,6 @@ impl<'a> Records<'a> {
     }
 
     // The one that is left: the last record finishes it.
-    #[tactic(auto, using(crate::proofs::Taking::none_left))]
     pub fn constraint(&self) -> EmlConstraint
         ensures meaning { meaning result ≡ the_constraint self.now }
         ensures root { result.root + 1 ≡ self.now.count }

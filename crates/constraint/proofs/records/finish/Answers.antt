@@ -1,11 +1,12 @@
 -- `constraint::records::finish` meets its contract: the greatest depth and the most quantifiers of those that are taken. Assumes nothing.
-use Prim.Native.Nat.{ℕ, ◌+◌}
-use Rattle.std.proofs.Common.{◌≡◌, unwrap_or, ⊎_elim, ap, ◌∙◌, rules, tests, arith}
+use borrow.Author.Tests.{le-leb}
+use Rattle.std.proofs.Common.{◌+◌, ◌≤◌, ◌≡◌, unwrap_or, ap, ◌∙◌, rules, tests, arith}
+use Rattle.std.proofs.lemmas.Bool.Decides.{nat_tests}
 use Rattle.std.proofs.lemmas.Iterator.{YieldsList-from_slice, YieldsList-from_map}
 use Rattle.std.proofs.lemmas.Iterator.Consumers.{reduce_from_yields_List}
 use Rattle.std.proofs.lemmas.List.Folds.{max_of_map}
 use Rattle.constraint.specs.Code.{binds, greatest, depths, quantified}
-use Rattle.constraint.proofs.Testing.{greatest_is, too_deep, too_many, shallow}
+use Rattle.constraint.proofs.Testing.{greatest_is}
 use Rattle.constraint.specs.declared.stack.Finished.{Finished}
 use Rattle.constraint.proofs.records.finish.Goals as goal
 use Rattle.constraint.proofs.records.finish.Goals.{After-unwrap_or-most}
@@ -32,21 +33,17 @@ module _ (c : After-unwrap_or-most) where
 pub returns-then-depth-gt16-clause-refusal : goal.returns-then-depth-gt16-clause-refusal
 returns-then-depth-gt16-clause-refusal c =
     let w = (goal.at.returns-then-depth-gt16-clause-refusal c).After-unwrap_or-most in
-    let d = 1 + greatest (depths c.args.taken.now) in
-    let q = binds c.args.r + greatest (quantified c.args.taken.now) in
-    ⊎_elim
-    (λ h. too_deep d q (omega (arith, deepest_is w)))
-    (λ h. too_many d q (omega (arith, most_is w, c.quantifier_of.ensures)))
-    c.then-depth-gt16.either
+    grind (arith, nat_tests, deepest_is w, most_is w)
 
 pub returns-clause-refusal : goal.returns-clause-refusal
 returns-clause-refusal c =
     let w = (goal.at.returns-clause-refusal c).After-unwrap_or-most in
-    shallow (1 + greatest (depths c.args.taken.now)) (binds c.args.r + greatest (quantified c.args.taken.now)) (omega (arith, deepest_is w)) (omega (arith, most_is w, c.quantifier_of.ensures))
+    let d : 1 + greatest (depths c.args.taken.now) ≤ 16 = omega (arith, deepest_is w) in
+    let q : binds c.args.r + greatest (quantified c.args.taken.now) ≤ 4 = omega (arith, most_is w) in
+    simp (le-leb _ _ d, le-leb _ _ q)
 
 pub returns-clause-depth : goal.returns-clause-depth
-returns-clause-depth c = ap (λ (n : ℕ). 1 + n) (deepest_is (goal.at.returns-clause-depth c).After-unwrap_or-most)
+returns-clause-depth c = omega (arith, deepest_is (goal.at.returns-clause-depth c).After-unwrap_or-most)
 
 pub returns-clause-quantifiers : goal.returns-clause-quantifiers
-returns-clause-quantifiers c =
-    omega (arith, most_is (goal.at.returns-clause-quantifiers c).After-unwrap_or-most, c.quantifier_of.ensures)
+returns-clause-quantifiers c = omega (arith, most_is (goal.at.returns-clause-quantifiers c).After-unwrap_or-most)

@@ -1,14 +1,23 @@
--- `constraint::records::Records::new` meets its contract: records that passed are as the type has them. Assumes nothing.
-use Rattle.std.proofs.Common.{◌≡◌, rules, length}
-use Prim.Native.Nat.{◌/◌}
+-- `constraint::records::Records::new` meets its contract: all records passed, and there is one. Assumes nothing.
+use mathlib.Core.Path.{◌≡◌}
 use native.Mathlib.Omega.{arith}
-use Rattle.constraint.specs.Records.{records_refusal}
-use Rattle.constraint.specs.RecordLaws.{ready, only_left}
-use Rattle.constraint.proofs.Testing.{records_tests}
+use native.Mathlib.Nat.{le_antisymm}
+use lib.ListN.{length}
+use Prim.Native.Nat.{◌/◌}
+use Rattle.record.specs.RefusalLaws.{none_of_each}
+use Rattle.constraint.specs.Records.{record_refusal}
 use Rattle.constraint.proofs.records.Records.new.Goals as goal
 
 pub invariant_of-result : goal.invariant_of-result
 invariant_of-result c =
-    let b = c.args.constraints.now in
-    let e : records_refusal (length c.args.nodes.now / 16) b (length b / 24) ≡ 0 = search (rules, records_tests) in
-    record { ready = ready _ _ _ e c.requires.nodes c.requires.few (omega arith); some = (only_left _ _ _ e).0 }
+    let f = record_refusal (length c.args.nodes.now / 16) c.args.constraints.now in
+    let e : c.loop-k.k ≡ length c.args.constraints.now / 24 = le_antisymm c.loop-k.auto.k-end c.loop-k-test.false in
+    record {
+      ready = record {
+        valid = c.requires.nodes;
+        few = c.requires.few;
+        there = omega arith;
+        passed = λ k l. none_of_each f c.loop-k.k c.loop-k.invariant.none_yet k (omega (arith, e));
+      };
+      some = omega (arith, c.loop-k.invariant.low, c.height-2.ensures, c.if-height-ne1.false, e);
+    }
