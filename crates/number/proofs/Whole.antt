@@ -2,12 +2,13 @@
 use Rattle.std.proofs.Common.{◌≡◌, ℕ, zero, suc, ◌+◌, ◌-◌, ◌*◌, ◌/◌, ◌^◌, ◌<◌, min, Bool, true, false, cond, T, ℤ, pos, ◌+ℤ◌, ◌-ℤ◌, neg_ℤ, sym, refl, ap, ◌∙◌, subst, true≢false, lt_of_lt_of_le, lt_of_le_of_lt, mul-le-mul_right, mul_comm, div-lt_iff_lt-mul, mul-one, arith, lit<, lit≤, ltb→lt, w64, SFits, ltb-true}
 use native.Mathlib.Nat.{div-div-eq-div-mul, add-div_right}
 use mathlib.Core.Bool.{false≢true}
-use lib.Signed.{lt_z, quot_z}
+use lib.Signed.{lt_z, quot_z, mag}
 use lib.Ieee.{Float, nan, inf, fin, binary64, up, down, round, mul, le, lt, to_signed, fits, of_bits}
 use lib.Ieee.Fits.{down_pos}
 use lib.Ieee.Exact.{HasValue}
 use lib.Ieee.Nearest.{div_same}
 use mir.ValLaws.{to_z-of_z}
+use Rattle.number.specs.Order.{passed}
 use Rattle.number.specs.Near.{nearest, below, half_up, with_sign}
 use Rattle.number.specs.Cast.{again, mag_sign}
 use Rattle.number.specs.Signed.{⊑→le, ⊏→lt}
@@ -116,30 +117,45 @@ plus_fits true zero h k = record { sfits = lit< tt }
 plus_fits true (suc u) h k = absurd (true≢false k)
 
 -- ---- the machine's steps
-module _ {x y : Float} (i : Doubled x y) {t : ℤ} (p : t ≡ to_signed 63 y) where
-  read : again t ≡ with_sign i.s i.u
-  read = ap again (p ∙ i.cast) ∙ to_z-of_z w64 (with_sign i.s i.u) (t_fits i.s i.u i.small)
+module _ (x : Float) (f : T (fits binary64 x)) (h : T (below (2 ^ 52) x)) where
+  abbrev i : Doubled x (mul binary64 x (of_bits binary64 0x4000_0000_0000_0000))
+  i = doubled x f h
 
-  pub sub_ok : lt_z (again t) (pos 0) ≡ true → SFits w64 (again t -ℤ pos 1)
-  sub_ok k = rw read (minus_fits i.s i.u i.small (rw read at k))
+  pub lowest : T (le (fin true 1 (pos 63)) (mul binary64 x (of_bits binary64 0x4000_0000_0000_0000)))
+  lowest = (in_range _ i.near).0
 
-  sub_is : lt_z (again t) (pos 0) ≡ true → quot_z (again (again t -ℤ pos 1)) (pos 2) ≡ with_sign i.s ((i.u + 1) / 2)
-  sub_is k = ap (λ (z : ℤ). quot_z z (pos 2)) (to_z-of_z w64 (again t -ℤ pos 1) (sub_ok k) ∙ ap (λ (z : ℤ). z -ℤ pos 1) read) ∙ down_step i.s i.u (rw read at k)
+  pub highest : T (lt (mul binary64 x (of_bits binary64 0x4000_0000_0000_0000)) (fin false 1 (pos 63)))
+  highest = (in_range _ i.near).1
 
-  pub div_ok : lt_z (again t) (pos 0) ≡ true → SFits w64 (quot_z (again (again t -ℤ pos 1)) (pos 2))
-  div_ok k = subst (SFits w64) (sym (sub_is k)) (half_fits i.s i.u i.small)
+  pub cast_small : mag (to_signed 63 (mul binary64 x (of_bits binary64 0x4000_0000_0000_0000))) < 2 ^ 53
+  cast_small = rw i.cast (lt_of_le_of_lt (mag_sign i.s i.u) i.small)
 
-  pub down_is : lt_z (again t) (pos 0) ≡ true → again (quot_z (again (again t -ℤ pos 1)) (pos 2)) ≡ nearest x
-  down_is k = to_z-of_z w64 (quot_z (again (again t -ℤ pos 1)) (pos 2)) (div_ok k) ∙ sub_is k ∙ sym i.goal
+  module _ (t : ℤ) (p : t ≡ to_signed 63 (mul binary64 x (of_bits binary64 0x4000_0000_0000_0000))) where
+    read : again t ≡ with_sign i.s i.u
+    read = ap again (p ∙ i.cast) ∙ to_z-of_z w64 (with_sign i.s i.u) (t_fits i.s i.u i.small)
 
-  pub add_ok : lt_z (again t) (pos 0) ≡ false → SFits w64 (again t +ℤ pos 1)
-  add_ok k = rw read (plus_fits i.s i.u i.small (rw read at k))
+    sub_ok : lt_z (again t) (pos 0) ≡ true → SFits w64 (again t -ℤ pos 1)
+    sub_ok k = rw read (minus_fits i.s i.u i.small (rw read at k))
 
-  add_is : lt_z (again t) (pos 0) ≡ false → quot_z (again (again t +ℤ pos 1)) (pos 2) ≡ with_sign i.s ((i.u + 1) / 2)
-  add_is k = ap (λ (z : ℤ). quot_z z (pos 2)) (to_z-of_z w64 (again t +ℤ pos 1) (add_ok k) ∙ ap (λ (z : ℤ). z +ℤ pos 1) read) ∙ up_step i.s i.u (rw read at k)
+    sub_is : lt_z (again t) (pos 0) ≡ true → quot_z (again (again t -ℤ pos 1)) (pos 2) ≡ with_sign i.s ((i.u + 1) / 2)
+    sub_is k = ap (λ (z : ℤ). quot_z z (pos 2)) (to_z-of_z w64 (again t -ℤ pos 1) (sub_ok k) ∙ ap (λ (z : ℤ). z -ℤ pos 1) read) ∙ down_step i.s i.u (rw read at k)
 
-  pub div_ok' : lt_z (again t) (pos 0) ≡ false → SFits w64 (quot_z (again (again t +ℤ pos 1)) (pos 2))
-  div_ok' k = subst (SFits w64) (sym (add_is k)) (half_fits i.s i.u i.small)
+    div_ok : lt_z (again t) (pos 0) ≡ true → SFits w64 (quot_z (again (again t -ℤ pos 1)) (pos 2))
+    div_ok k = subst (SFits w64) (sym (sub_is k)) (half_fits i.s i.u i.small)
 
-  pub up_is : lt_z (again t) (pos 0) ≡ false → again (quot_z (again (again t +ℤ pos 1)) (pos 2)) ≡ nearest x
-  up_is k = to_z-of_z w64 (quot_z (again (again t +ℤ pos 1)) (pos 2)) (div_ok' k) ∙ add_is k ∙ sym i.goal
+    pub down_is : lt_z (again t) (pos 0) ≡ true → again (quot_z (again (again t -ℤ pos 1)) (pos 2)) ≡ nearest x
+    down_is k = to_z-of_z w64 (quot_z (again (again t -ℤ pos 1)) (pos 2)) (div_ok k) ∙ sub_is k ∙ sym i.goal
+
+    add_ok : lt_z (again t) (pos 0) ≡ false → SFits w64 (again t +ℤ pos 1)
+    add_ok k = rw read (plus_fits i.s i.u i.small (rw read at k))
+
+    add_is : lt_z (again t) (pos 0) ≡ false → quot_z (again (again t +ℤ pos 1)) (pos 2) ≡ with_sign i.s ((i.u + 1) / 2)
+    add_is k = ap (λ (z : ℤ). quot_z z (pos 2)) (to_z-of_z w64 (again t +ℤ pos 1) (add_ok k) ∙ ap (λ (z : ℤ). z +ℤ pos 1) read) ∙ up_step i.s i.u (rw read at k)
+
+    div_ok' : lt_z (again t) (pos 0) ≡ false → SFits w64 (quot_z (again (again t +ℤ pos 1)) (pos 2))
+    div_ok' k = subst (SFits w64) (sym (add_is k)) (half_fits i.s i.u i.small)
+
+    pub up_is : lt_z (again t) (pos 0) ≡ false → again (quot_z (again (again t +ℤ pos 1)) (pos 2)) ≡ nearest x
+    up_is k = to_z-of_z w64 (quot_z (again (again t +ℤ pos 1)) (pos 2)) (div_ok' k) ∙ add_is k ∙ sym i.goal
+
+pub ruleset halved = (passed, lowest, highest, cast_small, up_is)
