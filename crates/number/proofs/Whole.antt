@@ -1,13 +1,13 @@
 -- `nearest` of the code: half of what is next to the whole part of the double. Assumes nothing.
-use Rattle.std.proofs.Common.{◌≡◌, ℕ, zero, suc, ◌+◌, ◌-◌, ◌*◌, ◌/◌, ◌^◌, ◌<◌, min, Bool, true, false, cond, T, ℤ, pos, ◌+ℤ◌, ◌-ℤ◌, neg_ℤ, sym, refl, ap, ◌∙◌, subst, true≢false, lt_of_lt_of_le, lt_of_le_of_lt, mul-le-mul_right, mul_comm, div-lt_iff_lt-mul, mul-one, arith, lit<, lit≤, ltb→lt, w64, SFits, ltb-true}
+use Rattle.std.proofs.Common.{◌≡◌, ℕ, ◌+◌, ◌-◌, ◌*◌, ◌/◌, ◌^◌, ◌<◌, min, Bool, true, false, cond, T, ℤ, pos, ◌+ℤ◌, ◌-ℤ◌, neg_ℤ, sym, ap, ◌∙◌, subst, lt_of_lt_of_le, lt_of_le_of_lt, mul-le-mul_right, mul_comm, div-lt_iff_lt-mul, mul-one, arith, lit≤, ltb→lt}
+use Rattle.std.proofs.lemmas.Grind.{common_steps}
+use borrow.Author.Differences.{ints}
 use native.Mathlib.Nat.{div-div-eq-div-mul, add-div_right}
-use mathlib.Core.Bool.{false≢true}
 use lib.Signed.{lt_z, quot_z, mag}
 use lib.Ieee.{Float, nan, inf, fin, binary64, up, down, round, mul, le, lt, to_signed, fits, of_bits}
 use lib.Ieee.Fits.{down_pos}
 use lib.Ieee.Exact.{HasValue}
 use lib.Ieee.Nearest.{div_same}
-use mir.ValLaws.{to_z-of_z}
 use Rattle.number.specs.Order.{passed}
 use Rattle.number.specs.Near.{nearest, below, half_up, with_sign}
 use Rattle.number.specs.Cast.{again, mag_sign}
@@ -53,15 +53,13 @@ halves a c C =
     ∙ ap (λ (z : ℕ). (z + c) / (c * 2)) (mul_comm a 2)
     ∙ ap (λ (z : ℕ). (2 * a + c) / z) (mul_comm c 2)
 
-down_step : (s : Bool) (u : ℕ) → lt_z (with_sign s u) (pos 0) ≡ true → quot_z (with_sign s u -ℤ pos 1) (pos 2) ≡ with_sign s ((u + 1) / 2)
-down_step false u h = absurd (omega (arith, ltb-true u 0 h))
-down_step true zero h = absurd (false≢true h)
-down_step true (suc u) h = ap (λ (z : ℕ). neg_ℤ (pos z)) (let e : suc (suc (u + 0)) / 2 ≡ (suc u + 1) / 2 = omega arith in e)
+steps_down : (s : Bool) (u : ℕ) (t : ℤ) → u < 2 ^ 53 → t ≡ with_sign s u → lt_z (again t) (pos 0) ≡ true → again (quot_z (again (again t -ℤ pos 1)) (pos 2)) ≡ with_sign s ((u + 1) / 2)
+steps_down false u t h e k = grind (arith, ints, common_steps)
+steps_down true u t h e k = grind (arith, ints, common_steps)
 
-up_step : (s : Bool) (u : ℕ) → lt_z (with_sign s u) (pos 0) ≡ false → quot_z (with_sign s u +ℤ pos 1) (pos 2) ≡ with_sign s ((u + 1) / 2)
-up_step false u h = refl
-up_step true zero h = refl
-up_step true (suc u) h = absurd (true≢false h)
+steps_up : (s : Bool) (u : ℕ) (t : ℤ) → u < 2 ^ 53 → t ≡ with_sign s u → lt_z (again t) (pos 0) ≡ false → again (quot_z (again (again t +ℤ pos 1)) (pos 2)) ≡ with_sign s ((u + 1) / 2)
+steps_up false u t h e k = grind (arith, ints, common_steps)
+steps_up true u t h e k = grind (arith, ints, common_steps)
 
 -- ---- what `nearest` needs of x * 2
 mul_two : (s : Bool) (m : ℕ) (e : ℤ) → mul binary64 (fin s m e) (of_bits binary64 0x4000_0000_0000_0000) ≡ round binary64 s (m * up e * 2) (down e)
@@ -98,24 +96,6 @@ doubled (fin s m e) f h =
     wide : (a d : ℕ) → a < 2 ^ 53 * d → a < 2 ^ 1024 * d
     wide a d k = lt_of_lt_of_le k (mul-le-mul_right d (lit≤ tt))
 
--- ---- the steps fit
-module _ (s : Bool) (u : ℕ) (h : u < 2 ^ 53) where
-  t_fits : SFits w64 (with_sign s u)
-  t_fits = record { sfits = lt_of_le_of_lt (mag_sign s u) (lt_of_lt_of_le h (lit≤ tt)) }
-
-  half_fits : SFits w64 (with_sign s ((u + 1) / 2))
-  half_fits = record { sfits = lt_of_le_of_lt (mag_sign s ((u + 1) / 2)) (omega arith) }
-
-minus_fits : (s : Bool) (u : ℕ) → u < 2 ^ 53 → lt_z (with_sign s u) (pos 0) ≡ true → SFits w64 (with_sign s u -ℤ pos 1)
-minus_fits false u h k = absurd (omega (arith, ltb-true u 0 k))
-minus_fits true zero h k = absurd (false≢true k)
-minus_fits true (suc u) h k = record { sfits = omega arith }
-
-plus_fits : (s : Bool) (u : ℕ) → u < 2 ^ 53 → lt_z (with_sign s u) (pos 0) ≡ false → SFits w64 (with_sign s u +ℤ pos 1)
-plus_fits false u h k = record { sfits = omega arith }
-plus_fits true zero h k = record { sfits = lit< tt }
-plus_fits true (suc u) h k = absurd (true≢false k)
-
 -- ---- the machine's steps
 module _ (x : Float) (f : T (fits binary64 x)) (h : T (below (2 ^ 52) x)) where
   abbrev i : Doubled x (mul binary64 x (of_bits binary64 0x4000_0000_0000_0000))
@@ -131,31 +111,10 @@ module _ (x : Float) (f : T (fits binary64 x)) (h : T (below (2 ^ 52) x)) where
   cast_small = rw i.cast (lt_of_le_of_lt (mag_sign i.s i.u) i.small)
 
   module _ (t : ℤ) (p : t ≡ to_signed 63 (mul binary64 x (of_bits binary64 0x4000_0000_0000_0000))) where
-    read : again t ≡ with_sign i.s i.u
-    read = ap again (p ∙ i.cast) ∙ to_z-of_z w64 (with_sign i.s i.u) (t_fits i.s i.u i.small)
-
-    sub_ok : lt_z (again t) (pos 0) ≡ true → SFits w64 (again t -ℤ pos 1)
-    sub_ok k = rw read (minus_fits i.s i.u i.small (rw read at k))
-
-    sub_is : lt_z (again t) (pos 0) ≡ true → quot_z (again (again t -ℤ pos 1)) (pos 2) ≡ with_sign i.s ((i.u + 1) / 2)
-    sub_is k = ap (λ (z : ℤ). quot_z z (pos 2)) (to_z-of_z w64 (again t -ℤ pos 1) (sub_ok k) ∙ ap (λ (z : ℤ). z -ℤ pos 1) read) ∙ down_step i.s i.u (rw read at k)
-
-    div_ok : lt_z (again t) (pos 0) ≡ true → SFits w64 (quot_z (again (again t -ℤ pos 1)) (pos 2))
-    div_ok k = subst (SFits w64) (sym (sub_is k)) (half_fits i.s i.u i.small)
-
     pub down_is : lt_z (again t) (pos 0) ≡ true → again (quot_z (again (again t -ℤ pos 1)) (pos 2)) ≡ nearest x
-    down_is k = to_z-of_z w64 (quot_z (again (again t -ℤ pos 1)) (pos 2)) (div_ok k) ∙ sub_is k ∙ sym i.goal
-
-    add_ok : lt_z (again t) (pos 0) ≡ false → SFits w64 (again t +ℤ pos 1)
-    add_ok k = rw read (plus_fits i.s i.u i.small (rw read at k))
-
-    add_is : lt_z (again t) (pos 0) ≡ false → quot_z (again (again t +ℤ pos 1)) (pos 2) ≡ with_sign i.s ((i.u + 1) / 2)
-    add_is k = ap (λ (z : ℤ). quot_z z (pos 2)) (to_z-of_z w64 (again t +ℤ pos 1) (add_ok k) ∙ ap (λ (z : ℤ). z +ℤ pos 1) read) ∙ up_step i.s i.u (rw read at k)
-
-    div_ok' : lt_z (again t) (pos 0) ≡ false → SFits w64 (quot_z (again (again t +ℤ pos 1)) (pos 2))
-    div_ok' k = subst (SFits w64) (sym (add_is k)) (half_fits i.s i.u i.small)
+    down_is k = steps_down i.s i.u t i.small (p ∙ i.cast) k ∙ sym i.goal
 
     pub up_is : lt_z (again t) (pos 0) ≡ false → again (quot_z (again (again t +ℤ pos 1)) (pos 2)) ≡ nearest x
-    up_is k = to_z-of_z w64 (quot_z (again (again t +ℤ pos 1)) (pos 2)) (div_ok' k) ∙ add_is k ∙ sym i.goal
+    up_is k = steps_up i.s i.u t i.small (p ∙ i.cast) k ∙ sym i.goal
 
 pub ruleset halved = (passed, lowest, highest, cast_small, up_is)
