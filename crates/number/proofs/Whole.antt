@@ -1,5 +1,5 @@
 -- `nearest` of the code: half of what is next to the whole part of the double. Assumes nothing.
-use Rattle.std.proofs.Common.{◌≡◌, ℕ, ◌+◌, ◌-◌, ◌*◌, ◌/◌, ◌^◌, ◌<◌, min, Bool, true, false, cond, T, ℤ, pos, ◌+ℤ◌, ◌-ℤ◌, neg_ℤ, sym, ap, ◌∙◌, subst, lt_of_lt_of_le, lt_of_le_of_lt, mul-le-mul_right, mul_comm, div-lt_iff_lt-mul, mul-one, arith, lit≤, ltb→lt}
+use Rattle.std.proofs.Common.{◌≡◌, ℕ, ◌+◌, ◌-◌, ◌*◌, ◌/◌, ◌^◌, ◌<◌, min, Bool, true, false, cond, T, ℤ, pos, ◌+ℤ◌, ◌-ℤ◌, neg_ℤ, refl, sym, ap, ◌∙◌, subst, lt_of_lt_of_le, lt_of_le_of_lt, mul-le-mul_right, mul_comm, div-lt_iff_lt-mul, mul-one, arith, lit≤, ltb→lt}
 use Rattle.std.proofs.lemmas.Grind.{common_steps}
 use borrow.Author.Differences.{ints}
 use native.Mathlib.Nat.{div-div-eq-div-mul, add-div_right}
@@ -25,13 +25,13 @@ to_signed_of_value nan s a c C v h = absurd v
 to_signed_of_value (inf t) s a c C v h = absurd v
 to_signed_of_value (fin t m e) s a c C v h =
     let q : m * up e / down e ≡ a / c = div_same (m * up e) (down e) a c (down_pos e) C v.1 in
-    let l : m * up e / down e < 2 ^ 63 = subst (λ (z : ℕ). z < 2 ^ 63) (sym q) ((div-lt_iff_lt-mul C).1 h) in
-    go t v.0 q (cut (m * up e / down e) l)
+    let l : a / c < 2 ^ 63 = (div-lt_iff_lt-mul C).1 h in
+    let k = cut (a / c) l in
+    rw (v.0, q, k.0, k.1) (signed s)
   where
-    go : (t : Bool) → t ≡ s → m * up e / down e ≡ a / c → (min (m * up e / down e) (2 ^ 63) ≡ m * up e / down e) × (min (m * up e / down e) (2 ^ 63 - 1) ≡ m * up e / down e)
-        → cond t (neg_ℤ (pos (min (m * up e / down e) (2 ^ 63)))) (pos (min (m * up e / down e) (2 ^ 63 - 1))) ≡ with_sign s (a / c)
-    go true p q k = subst (λ (b : Bool). neg_ℤ (pos (min (m * up e / down e) (2 ^ 63))) ≡ with_sign b (a / c)) p (ap (λ (z : ℕ). neg_ℤ (pos z)) (k.0 ∙ q))
-    go false p q k = subst (λ (b : Bool). pos (min (m * up e / down e) (2 ^ 63 - 1)) ≡ with_sign b (a / c)) p (ap pos (k.1 ∙ q))
+    signed : (s : Bool) → cond s (neg_ℤ (pos (a / c))) (pos (a / c)) ≡ with_sign s (a / c)
+    signed true = refl
+    signed false = refl
 
 -- what is below 2 ^ 53 is in the cast's range
 pub in_range : (y : Float) → T (below (2 ^ 53) y) → T (le (fin true 1 (pos 63)) y) × T (lt y (fin false 1 (pos 63)))
