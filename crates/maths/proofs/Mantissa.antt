@@ -1,15 +1,17 @@
 -- The split of a positive value in `ln`: its field and fraction give the mantissa and the exponent. Assumes nothing.
 use mathlib.Core.Path.{◌≡◌, refl, ap, sym, ◌∙◌}
-use mathlib.Core.Logic.{◌⊎◌, inl, inr}
+use mathlib.Core.Logic.{inl, inr}
+use Rattle.std.proofs.lemmas.Bool.{cases_lt}
+use Rattle.std.proofs.lemmas.Bool.Decides.{nat_tests}
+use borrow.Author.Differences.{ints}
 use Prim.Native.Nat.{ℕ, zero, suc, ◌+◌, ◌-◌, ◌*◌, ◌/◌, ◌%◌, ◌^◌, ◌≤◌, ◌<◌}
-use native.Mathlib.Nat.{le_refl, lt_irrefl, lt_of_lt_of_le, mul_assoc, mul-pos, mul-le-mul, mul-lt-mul_of_pos_right}
+use native.Mathlib.Nat.{le_refl, lt_of_lt_of_le, mul_assoc, mul-pos, mul-le-mul, mul-lt-mul_of_pos_right}
 use native.Mathlib.Omega.{arith}
-use mathlib.Core.Bool.{Bool, true, false, not, ◌&&◌}
+use mathlib.Core.Bool.{true, false, ◌&&◌}
 use lib.IntN.{ℤ, pos, negsuc, neg_ℤ, ◌+ℤ◌, ◌-ℤ◌}
-use lib.Dec.{T, lit<, lit≤, ltb, leb, eqb, ltb→lt, nltb→le, eqb→eq}
+use lib.Dec.{T, lit<, lit≤, ltb, leb, eqb, eqb→eq}
 use lib.Pow.{pow_pos, pow-add, pow_mono}
 use lib.Count.{count_leading_zeros, leading_top}
-use borrow.Author.Tests.{lt-ltb, le-ltb, le-leb, lt-leb}
 use lib.Ieee.{Float, nan, inf, fin, binary64, up, down, minus, size, of_bits, to_bits, fits}
 use lib.Ieee.Fits.{and_l}
 use lib.Ieee.Positive.{positive}
@@ -18,56 +20,21 @@ use Rattle.number.specs.Pattern.{pattern}
 use Rattle.maths.specs.Ln.{mantissa, exponent}
 use Rattle.maths.proofs.Digits.{size_pos, size_is, size_shift, few, digits, digits_ge, digits_lt, normal, subnormal, bits_at, fits_i, read_back}
 
-lt_or_ge : (a b : ℕ) → (a < b) ⊎ (b ≤ a)
-lt_or_ge a b = go (ltb a b) (ltb→lt a b) (nltb→le a b)
-  where
-    go : (t : Bool) → (T t → a < b) → (T (not t) → b ≤ a) → (a < b) ⊎ (b ≤ a)
-    go true h k = inl (h tt)
-    go false h k = inr (k tt)
-
 -- ---- a - b as an integer
-minus_pos : (a l : ℕ) → l ≤ a → minus a l ≡ pos (a - l)
-minus_pos a l h = rw (le-leb l a h)
-
-minus_neg : (a l : ℕ) → a < l → minus a l ≡ negsuc (l - suc a)
-minus_neg a l h = rw (lt-leb l a h)
-
 -- (a - l) + c is (a + c) - l
 minus_add : (a l c : ℕ) → minus a l +ℤ pos c ≡ minus (a + c) l
-minus_add a l c = elim (lt_or_ge a l) [
-  | inr g ↦
-      let e : a - l + c ≡ a + c - l = omega arith in
-      ap (λ (z : ℤ). z +ℤ pos c) (minus_pos a l g) ∙ ap pos e ∙ sym (minus_pos (a + c) l (omega arith))
-  | inl g ↦ ap (λ (z : ℤ). z +ℤ pos c) (minus_neg a l g) ∙ beneath g (lt_or_ge (a + c) l)
-]
-  where
-    beneath : a < l → (a + c < l) ⊎ (l ≤ a + c) → negsuc (l - suc a) +ℤ pos c ≡ minus (a + c) l
-    beneath g (inl h) =
-        let e : suc (l - suc a) - suc c ≡ l - suc (a + c) = omega arith in
-        rw (lt-ltb c (suc (l - suc a)) (omega arith)) (ap negsuc e ∙ sym (minus_neg (a + c) l h))
-    beneath g (inr h) =
-        let e : c - suc (l - suc a) ≡ a + c - l = omega arith in
-        rw (le-ltb c (suc (l - suc a)) (omega arith)) (ap pos e ∙ sym (minus_pos (a + c) l h))
+minus_add a l c = grind (arith, nat_tests, ints)
 
 -- the two exponents as the code has them
 field_exponent : (f : ℕ) → pos f -ℤ pos 1023 ≡ minus (f + 51) 1074
-field_exponent f = elim (lt_or_ge f 1023) [
-  | inl g ↦ let e : 1023 - suc f ≡ 1074 - suc (f + 51) = omega arith in rw (lt-ltb f 1023 g) (ap negsuc e ∙ sym (minus_neg (f + 51) 1074 (omega arith)))
-  | inr g ↦ let e : f - 1023 ≡ f + 51 - 1074 = omega arith in rw (le-ltb f 1023 g) (ap pos e ∙ sym (minus_pos (f + 51) 1074 (omega arith)))
-]
+field_exponent f = grind (arith, nat_tests, ints)
 
 shift_exponent : (s : ℕ) → 0 < s → s ≤ 52 → negsuc 1021 -ℤ pos s ≡ minus (52 - s) 1074
-shift_exponent zero h k = absurd (lt_irrefl 0 h)
-shift_exponent (suc s) h k = let e : suc (1021 + s) ≡ 1074 - suc (52 - suc s) = omega arith in ap negsuc e ∙ sym (minus_neg (52 - suc s) 1074 (omega arith))
+shift_exponent s h k = grind (arith, nat_tests, ints)
 
 -- the mantissa's own exponent, z being how many digits it has
 digits_exponent : (z : ℕ) → 0 < z → z ≤ 53 → minus (1075 - z) 1074 ≡ neg_ℤ (pos (z - 1))
-digits_exponent zero h k = absurd (lt_irrefl 0 h)
-digits_exponent (suc zero) h k = refl
-digits_exponent (suc (suc z)) h k =
-    let e : 1074 - suc (1075 - suc (suc z)) ≡ z = omega arith in
-    let f : suc (suc z) - 1 ≡ suc z = omega arith in
-    minus_neg (1075 - suc (suc z)) 1074 (omega arith) ∙ ap negsuc e ∙ ap (λ (y : ℕ). neg_ℤ (pos y)) (sym f)
+digits_exponent z h k = grind (arith, nat_tests, ints)
 
 shape : (k : ℕ) → (up (neg_ℤ (pos k)) ≡ 1) × (down (neg_ℤ (pos k)) ≡ 2 ^ k)
 shape zero = (refl, refl)
@@ -97,7 +64,7 @@ module _ (n : ℕ) (o : n % 2 ≡ 1) (small : n < 2 ^ 53) where
   module _ (j b : ℕ) (is : b ≡ pattern binary64 (n * 2 ^ j)) where
     -- where the field is not 0
     high_if : (b / 2 ^ 52 ≡ 0 → ⊥) → 53 ≤ size n + j
-    high_if h = elim (lt_or_ge (size n + j) 53) [ inl l ↦ absurd (h (omega (arith, subnormal n n_pos small j l))) | inr g ↦ g ]
+    high_if h = elim (cases_lt (size n + j) 53) [ inl l ↦ absurd (h (omega (arith, subnormal n n_pos small j l))) | inr g ↦ g ]
 
     high : (h : b / 2 ^ 52 ≡ 0 → ⊥) → b ≡ (size n + j - 53) * 2 ^ 52 + digits n n_pos small
     high h = is ∙ normal n n_pos small j (high_if h)
@@ -112,7 +79,7 @@ module _ (n : ℕ) (o : n % 2 ≡ 1) (small : n < 2 ^ 53) where
 
     -- where it is 0
     low_if : b / 2 ^ 52 ≡ 0 → size n + j < 53
-    low_if h = elim (lt_or_ge (size n + j) 53) [ inl l ↦ l | inr g ↦ absurd (omega (arith, normal n n_pos small j g, digits_ge n n_pos small)) ]
+    low_if h = elim (cases_lt (size n + j) 53) [ inl l ↦ l | inr g ↦ absurd (omega (arith, normal n n_pos small j g, digits_ge n n_pos small)) ]
 
     low : b / 2 ^ 52 ≡ 0 → (b % 2 ^ 52 ≡ n * 2 ^ j) × (n * 2 ^ j < 2 ^ 52)
     low h = let s = subnormal n n_pos small j (low_if h) in omega arith

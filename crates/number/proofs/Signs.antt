@@ -1,5 +1,5 @@
 -- The library's magnitude and sign are the definitions'. Assumes nothing.
-use Rattle.std.proofs.Common.{◌≡◌, Bool, true, false, refl}
+use Rattle.std.proofs.Common.{◌≡◌, true, false, refl}
 use Rattle.std.specs.Float.{float_with_sign, is_sign_negative}
 use lib.Ieee.{Float, nan, inf, fin, is_nan}
 use Rattle.number.specs.Sign.{abs_of, sign_bit}

@@ -1,13 +1,14 @@
 -- `nearest` of the code: half of what is next to the whole part of the double. Assumes nothing.
-use Rattle.std.proofs.Common.{◌≡◌, ℕ, zero, suc, ◌+◌, ◌-◌, ◌*◌, ◌/◌, ◌^◌, ◌<◌, min, Bool, true, false, cond, T, ℤ, pos, ◌+ℤ◌, ◌-ℤ◌, neg_ℤ, sym, refl, ap, ◌∙◌, subst, true≢false, lt_of_lt_of_le, lt_of_le_of_lt, mul-le-mul_right, mul_comm, div-lt_iff_lt-mul, mul-one, arith, lit<, lit≤, ltb→lt, w64, SFits, ltb-true}
+use Rattle.std.proofs.Common.{◌≡◌, ℕ, ◌+◌, ◌-◌, ◌*◌, ◌/◌, ◌^◌, ◌<◌, min, Bool, true, false, cond, T, ℤ, pos, ◌+ℤ◌, ◌-ℤ◌, neg_ℤ, refl, sym, ap, ◌∙◌, subst, lt_of_lt_of_le, lt_of_le_of_lt, mul-le-mul_right, mul_comm, div-lt_iff_lt-mul, mul-one, arith, lit≤, ltb→lt}
+use Rattle.std.proofs.lemmas.Grind.{common_steps}
+use borrow.Author.Differences.{ints}
 use native.Mathlib.Nat.{div-div-eq-div-mul, add-div_right}
-use mathlib.Core.Bool.{false≢true}
-use lib.Signed.{lt_z, quot_z}
+use lib.Signed.{lt_z, quot_z, mag}
 use lib.Ieee.{Float, nan, inf, fin, binary64, up, down, round, mul, le, lt, to_signed, fits, of_bits}
 use lib.Ieee.Fits.{down_pos}
 use lib.Ieee.Exact.{HasValue}
 use lib.Ieee.Nearest.{div_same}
-use mir.ValLaws.{to_z-of_z}
+use Rattle.number.specs.Order.{passed}
 use Rattle.number.specs.Near.{nearest, below, half_up, with_sign}
 use Rattle.number.specs.Cast.{again, mag_sign}
 use Rattle.number.specs.Signed.{⊑→le, ⊏→lt}
@@ -24,13 +25,13 @@ to_signed_of_value nan s a c C v h = absurd v
 to_signed_of_value (inf t) s a c C v h = absurd v
 to_signed_of_value (fin t m e) s a c C v h =
     let q : m * up e / down e ≡ a / c = div_same (m * up e) (down e) a c (down_pos e) C v.1 in
-    let l : m * up e / down e < 2 ^ 63 = subst (λ (z : ℕ). z < 2 ^ 63) (sym q) ((div-lt_iff_lt-mul C).1 h) in
-    go t v.0 q (cut (m * up e / down e) l)
+    let l : a / c < 2 ^ 63 = (div-lt_iff_lt-mul C).1 h in
+    let k = cut (a / c) l in
+    rw (v.0, q, k.0, k.1) (signed s)
   where
-    go : (t : Bool) → t ≡ s → m * up e / down e ≡ a / c → (min (m * up e / down e) (2 ^ 63) ≡ m * up e / down e) × (min (m * up e / down e) (2 ^ 63 - 1) ≡ m * up e / down e)
-        → cond t (neg_ℤ (pos (min (m * up e / down e) (2 ^ 63)))) (pos (min (m * up e / down e) (2 ^ 63 - 1))) ≡ with_sign s (a / c)
-    go true p q k = subst (λ (b : Bool). neg_ℤ (pos (min (m * up e / down e) (2 ^ 63))) ≡ with_sign b (a / c)) p (ap (λ (z : ℕ). neg_ℤ (pos z)) (k.0 ∙ q))
-    go false p q k = subst (λ (b : Bool). pos (min (m * up e / down e) (2 ^ 63 - 1)) ≡ with_sign b (a / c)) p (ap pos (k.1 ∙ q))
+    signed : (s : Bool) → cond s (neg_ℤ (pos (a / c))) (pos (a / c)) ≡ with_sign s (a / c)
+    signed true = refl
+    signed false = refl
 
 -- what is below 2 ^ 53 is in the cast's range
 pub in_range : (y : Float) → T (below (2 ^ 53) y) → T (le (fin true 1 (pos 63)) y) × T (lt y (fin false 1 (pos 63)))
@@ -52,15 +53,13 @@ halves a c C =
     ∙ ap (λ (z : ℕ). (z + c) / (c * 2)) (mul_comm a 2)
     ∙ ap (λ (z : ℕ). (2 * a + c) / z) (mul_comm c 2)
 
-down_step : (s : Bool) (u : ℕ) → lt_z (with_sign s u) (pos 0) ≡ true → quot_z (with_sign s u -ℤ pos 1) (pos 2) ≡ with_sign s ((u + 1) / 2)
-down_step false u h = absurd (omega (arith, ltb-true u 0 h))
-down_step true zero h = absurd (false≢true h)
-down_step true (suc u) h = ap (λ (z : ℕ). neg_ℤ (pos z)) (let e : suc (suc (u + 0)) / 2 ≡ (suc u + 1) / 2 = omega arith in e)
+steps_down : (s : Bool) (u : ℕ) (t : ℤ) → u < 2 ^ 53 → t ≡ with_sign s u → lt_z (again t) (pos 0) ≡ true → again (quot_z (again (again t -ℤ pos 1)) (pos 2)) ≡ with_sign s ((u + 1) / 2)
+steps_down false u t h e k = grind (arith, ints, common_steps)
+steps_down true u t h e k = grind (arith, ints, common_steps)
 
-up_step : (s : Bool) (u : ℕ) → lt_z (with_sign s u) (pos 0) ≡ false → quot_z (with_sign s u +ℤ pos 1) (pos 2) ≡ with_sign s ((u + 1) / 2)
-up_step false u h = refl
-up_step true zero h = refl
-up_step true (suc u) h = absurd (true≢false h)
+steps_up : (s : Bool) (u : ℕ) (t : ℤ) → u < 2 ^ 53 → t ≡ with_sign s u → lt_z (again t) (pos 0) ≡ false → again (quot_z (again (again t +ℤ pos 1)) (pos 2)) ≡ with_sign s ((u + 1) / 2)
+steps_up false u t h e k = grind (arith, ints, common_steps)
+steps_up true u t h e k = grind (arith, ints, common_steps)
 
 -- ---- what `nearest` needs of x * 2
 mul_two : (s : Bool) (m : ℕ) (e : ℤ) → mul binary64 (fin s m e) (of_bits binary64 0x4000_0000_0000_0000) ≡ round binary64 s (m * up e * 2) (down e)
@@ -97,49 +96,25 @@ doubled (fin s m e) f h =
     wide : (a d : ℕ) → a < 2 ^ 53 * d → a < 2 ^ 1024 * d
     wide a d k = lt_of_lt_of_le k (mul-le-mul_right d (lit≤ tt))
 
--- ---- the steps fit
-module _ (s : Bool) (u : ℕ) (h : u < 2 ^ 53) where
-  t_fits : SFits w64 (with_sign s u)
-  t_fits = record { sfits = lt_of_le_of_lt (mag_sign s u) (lt_of_lt_of_le h (lit≤ tt)) }
-
-  half_fits : SFits w64 (with_sign s ((u + 1) / 2))
-  half_fits = record { sfits = lt_of_le_of_lt (mag_sign s ((u + 1) / 2)) (omega arith) }
-
-minus_fits : (s : Bool) (u : ℕ) → u < 2 ^ 53 → lt_z (with_sign s u) (pos 0) ≡ true → SFits w64 (with_sign s u -ℤ pos 1)
-minus_fits false u h k = absurd (omega (arith, ltb-true u 0 k))
-minus_fits true zero h k = absurd (false≢true k)
-minus_fits true (suc u) h k = record { sfits = omega arith }
-
-plus_fits : (s : Bool) (u : ℕ) → u < 2 ^ 53 → lt_z (with_sign s u) (pos 0) ≡ false → SFits w64 (with_sign s u +ℤ pos 1)
-plus_fits false u h k = record { sfits = omega arith }
-plus_fits true zero h k = record { sfits = lit< tt }
-plus_fits true (suc u) h k = absurd (true≢false k)
-
 -- ---- the machine's steps
-module _ {x y : Float} (i : Doubled x y) {t : ℤ} (p : t ≡ to_signed 63 y) where
-  read : again t ≡ with_sign i.s i.u
-  read = ap again (p ∙ i.cast) ∙ to_z-of_z w64 (with_sign i.s i.u) (t_fits i.s i.u i.small)
+module _ (x : Float) (f : T (fits binary64 x)) (h : T (below (2 ^ 52) x)) where
+  abbrev i : Doubled x (mul binary64 x (of_bits binary64 0x4000_0000_0000_0000))
+  i = doubled x f h
 
-  pub sub_ok : lt_z (again t) (pos 0) ≡ true → SFits w64 (again t -ℤ pos 1)
-  sub_ok k = rw read (minus_fits i.s i.u i.small (rw read at k))
+  pub lowest : T (le (fin true 1 (pos 63)) (mul binary64 x (of_bits binary64 0x4000_0000_0000_0000)))
+  lowest = (in_range _ i.near).0
 
-  sub_is : lt_z (again t) (pos 0) ≡ true → quot_z (again (again t -ℤ pos 1)) (pos 2) ≡ with_sign i.s ((i.u + 1) / 2)
-  sub_is k = ap (λ (z : ℤ). quot_z z (pos 2)) (to_z-of_z w64 (again t -ℤ pos 1) (sub_ok k) ∙ ap (λ (z : ℤ). z -ℤ pos 1) read) ∙ down_step i.s i.u (rw read at k)
+  pub highest : T (lt (mul binary64 x (of_bits binary64 0x4000_0000_0000_0000)) (fin false 1 (pos 63)))
+  highest = (in_range _ i.near).1
 
-  pub div_ok : lt_z (again t) (pos 0) ≡ true → SFits w64 (quot_z (again (again t -ℤ pos 1)) (pos 2))
-  div_ok k = subst (SFits w64) (sym (sub_is k)) (half_fits i.s i.u i.small)
+  pub cast_small : mag (to_signed 63 (mul binary64 x (of_bits binary64 0x4000_0000_0000_0000))) < 2 ^ 53
+  cast_small = rw i.cast (lt_of_le_of_lt (mag_sign i.s i.u) i.small)
 
-  pub down_is : lt_z (again t) (pos 0) ≡ true → again (quot_z (again (again t -ℤ pos 1)) (pos 2)) ≡ nearest x
-  down_is k = to_z-of_z w64 (quot_z (again (again t -ℤ pos 1)) (pos 2)) (div_ok k) ∙ sub_is k ∙ sym i.goal
+  module _ (t : ℤ) (p : t ≡ to_signed 63 (mul binary64 x (of_bits binary64 0x4000_0000_0000_0000))) where
+    pub down_is : lt_z (again t) (pos 0) ≡ true → again (quot_z (again (again t -ℤ pos 1)) (pos 2)) ≡ nearest x
+    down_is k = steps_down i.s i.u t i.small (p ∙ i.cast) k ∙ sym i.goal
 
-  pub add_ok : lt_z (again t) (pos 0) ≡ false → SFits w64 (again t +ℤ pos 1)
-  add_ok k = rw read (plus_fits i.s i.u i.small (rw read at k))
+    pub up_is : lt_z (again t) (pos 0) ≡ false → again (quot_z (again (again t +ℤ pos 1)) (pos 2)) ≡ nearest x
+    up_is k = steps_up i.s i.u t i.small (p ∙ i.cast) k ∙ sym i.goal
 
-  add_is : lt_z (again t) (pos 0) ≡ false → quot_z (again (again t +ℤ pos 1)) (pos 2) ≡ with_sign i.s ((i.u + 1) / 2)
-  add_is k = ap (λ (z : ℤ). quot_z z (pos 2)) (to_z-of_z w64 (again t +ℤ pos 1) (add_ok k) ∙ ap (λ (z : ℤ). z +ℤ pos 1) read) ∙ up_step i.s i.u (rw read at k)
-
-  pub div_ok' : lt_z (again t) (pos 0) ≡ false → SFits w64 (quot_z (again (again t +ℤ pos 1)) (pos 2))
-  div_ok' k = subst (SFits w64) (sym (add_is k)) (half_fits i.s i.u i.small)
-
-  pub up_is : lt_z (again t) (pos 0) ≡ false → again (quot_z (again (again t +ℤ pos 1)) (pos 2)) ≡ nearest x
-  up_is k = to_z-of_z w64 (quot_z (again (again t +ℤ pos 1)) (pos 2)) (div_ok' k) ∙ add_is k ∙ sym i.goal
+pub ruleset halved = (passed, lowest, highest, cast_small, up_is)

@@ -77,6 +77,7 @@ pub fn bits_of(x: f64) -> u64
 
 // The nearest whole number, ties away from zero: the whole part of 2x, one further from zero, halved. (The library's `round` took a
 // third longer, measured.)
+#[tactic(auto, using(crate::proofs::Whole::halved))]
 pub fn nearest(x: f64) -> i64
     requires { T (Near.below (2 ^ 52) x) }
     ensures { result ≡ Near.nearest x }
