@@ -3,7 +3,8 @@ use Rattle.std.specs.Prelude.{ℕ, zero, suc, List, [], ◌∷◌, ◌++◌, len
 use Rattle.std.specs.Float.{binary64, nan}
 use Rattle.std.specs.Fmt.{decimal}
 use Rattle.std.specs.Int.{from_bool}
-use Rattle.nra.specs.Solver.{Stop, conflict, tolerance, limit, unsatisfied, Answer, assignment, failed}
+use Rattle.nra.specs.Solver.{Answer, assignment, failed}
+use Rattle.nra.specs.Words.{word_of}
 use Rattle.eml_solve.specs.Hex.{hex_of}
 
 -- a line's end
@@ -12,12 +13,6 @@ end = 10 ∷ []
 
 abbrev pub bits_text : Float → List ℕ
 bits_text x = hex_of (to_bits binary64 x)
-
-abbrev pub stop_word : Stop → List ℕ
-stop_word conflict = codes "conflict"
-stop_word tolerance = codes "tolerance"
-stop_word limit = codes "limit"
-stop_word unsatisfied = codes "unsatisfied"
 
 abbrev pub halvings_line : ℕ → List ℕ
 halvings_line h = codes "halvings " ++ decimal h ++ end
@@ -36,7 +31,7 @@ variable_lines (suc n) point = variable_lines n point ++ variable_line n (slice_
 
 abbrev pub solved_lines : Answer → List ℕ
 solved_lines (assignment m exact h) = assigned_lines exact h ++ variable_lines (length m) m
-solved_lines (failed stop r h) = stop_word stop ++ end ++ codes "best " ++ bits_text r ++ end ++ halvings_line h
+solved_lines (failed stop r h) = word_of stop ++ end ++ codes "best " ++ bits_text r ++ end ++ halvings_line h
 
 abbrev pub refusal_line : ℕ → List ℕ
 refusal_line n = codes "refused " ++ decimal n ++ end

@@ -12,7 +12,8 @@ use Rattle.interval.specs.declared.Interval.{Interval}
 use Rattle.interval.specs.BoxLaws.{midpoints_set}
 use lib.Seq.{set-set}
 use Rattle.nra.specs.Answers.{tried}
-use Rattle.nra.specs.Solver.{Problem, Stop, Answer, failed, State, Progress, Stopped, Going, begin_checked, begin_narrowed, begin_in, settle_checked, settle_narrowed, settle_in, halve, steps, untried}
+use Rattle.nra.specs.declared.answer.Stop.{Stop}
+use Rattle.nra.specs.Solver.{Problem, Answer, failed, State, Progress, Stopped, Going, begin_checked, begin_narrowed, begin_in, settle_checked, settle_narrowed, settle_in, halve, steps, untried}
 
 -- points that differ in one value
 pub ruleset one_changed = (midpoints_set, set-set)

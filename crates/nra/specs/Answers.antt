@@ -17,9 +17,9 @@ use Rattle.constraint.specs.Views.{the_constraint}
 use Rattle.narrow.specs.Narrowing.{Narrowed, is_conflict, propagate}
 use Rattle.nra.specs.declared.halving.Task.{Task}
 use Rattle.nra.specs.declared.run.State as Held
-use Rattle.nra.specs.declared.answer.Stop as Word
+use Rattle.nra.specs.declared.answer.Stop.{Stop}
 use Rattle.nra.specs.declared.answer.Solved.{Solved}
-use Rattle.nra.specs.Solver.{Problem, Stop, conflict, tolerance, limit, unsatisfied, Answer, assignment, failed, State, Progress, Stopped, Going, begin_in, run, untried}
+use Rattle.nra.specs.Solver.{Problem, Answer, assignment, failed, State, Progress, Stopped, Going, begin_in, run, untried}
 
 abbrev pub problem : Constraint → Float → Problem
 problem c ε = record { constraint = c; tolerance = ε }
@@ -36,15 +36,9 @@ pub record Asks (c : Constraint) (most : ℕ) (ε : Float) (t : Task) : Type 0 w
   pub tolerance_is : t.tolerance ≡ ε
 
 -- ---- an answer
-abbrev pub stop_of : Word.Stop → Stop
-stop_of Word.Stop.Conflict = conflict
-stop_of Word.Stop.Tolerance = tolerance
-stop_of Word.Stop.Limit = limit
-stop_of Word.Stop.Unsatisfied = unsatisfied
-
 abbrev pub answer_of : Solved → Answer
 answer_of (Solved.Assignment point exact h) = assignment (values_of point) exact h
-answer_of (Solved.Failed stop r h) = failed (stop_of stop) r h
+answer_of (Solved.Failed stop r h) = failed stop r h
 
 -- an answer, or the number of a refusal
 abbrev pub answered : Result Solved Refusal → Result Answer ℕ
@@ -54,10 +48,10 @@ answered (Err r) = Err (number_of r)
 -- where a stop word goes out as a number: document 01's order
 abbrev pub stop_number : Answer → ℕ
 stop_number (assignment m exact h) = 0
-stop_number (failed conflict r h) = 1
-stop_number (failed tolerance r h) = 2
-stop_number (failed limit r h) = 3
-stop_number (failed unsatisfied r h) = 4
+stop_number (failed Stop.Conflict r h) = 1
+stop_number (failed Stop.Tolerance r h) = 2
+stop_number (failed Stop.Limit r h) = 3
+stop_number (failed Stop.Unsatisfied r h) = 4
 
 -- ---- where a run stands
 abbrev pub state_of : Held.State → State
@@ -81,7 +75,7 @@ pub record Narrows (t : Task) (d : Domain) (x : Domain × Point) : Type 0 where
 -- it meets a conflict after h halvings, and a says so
 pub record Conflicts (t : Task) (d : Domain) (h : ℕ) (a : Solved) : Type 0 where
   pub met : is_conflict (narrowed t d).answer ≡ true
-  pub answer : answer_of a ≡ failed conflict +∞ h
+  pub answer : answer_of a ≡ failed Stop.Conflict +∞ h
 
 -- an answer under a limit, where there are variables: under 0 it is never exact
 unfoldable pub tried : ℕ → Answer → Answer

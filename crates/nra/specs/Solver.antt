@@ -10,16 +10,13 @@ use Rattle.constraint.specs.Constraint.{Constraint, num_vars}
 use Rattle.narrow.specs.Narrowing.{is_conflict, propagate}
 use Rattle.point.specs.Check.{check}
 use Rattle.point.specs.Residual.{residual}
+use Rattle.nra.specs.declared.answer.Stop.{Stop}
 
 pub record Problem : Type 0 where
   pub constraint : Constraint
   pub tolerance : Float
 
--- the stop words other than "assignment"
-pub data Stop : Type 0 where
-  conflict tolerance limit unsatisfied : Stop
-
--- Both carry the count of halvings last. An assignment has its point and exactness, any other answer its residual.
+-- Both carry the count of halvings last. An assignment has its point and exactness, any other answer its stop word and residual.
 pub data Answer : Type 0 where
   assignment : List Float → Bool → ℕ → Answer
   failed : Stop → Float → ℕ → Answer
@@ -31,10 +28,10 @@ halvings_of (failed w r h) = h
 -- the stop word is "limit"
 abbrev pub reached : Answer → Bool
 reached (assignment m exact h) = false
-reached (failed conflict r h) = false
-reached (failed tolerance r h) = false
-reached (failed limit r h) = true
-reached (failed unsatisfied r h) = false
+reached (failed Stop.Conflict r h) = false
+reached (failed Stop.Tolerance r h) = false
+reached (failed Stop.Limit r h) = true
+reached (failed Stop.Unsatisfied r h) = false
 
 -- how far a point is from meeting the constraint: the residual's magnitude
 abbrev pub distance_at : Settings → Constraint → List Float → Float
@@ -62,7 +59,7 @@ begin_checked p b false = Going (record { boxes = b; halvings = 0 })
 
 -- by whether narrowing met a conflict
 unfoldable pub begin_narrowed : Settings → Problem → Bool → List Interval → Progress
-begin_narrowed σ p true b = Stopped (failed conflict +∞ 0)
+begin_narrowed σ p true b = Stopped (failed Stop.Conflict +∞ 0)
 begin_narrowed σ p false b = begin_checked p b (check σ (midpoints b) p.constraint)
 
 unfoldable pub begin_in : Settings → Problem → List Interval → Progress
@@ -71,7 +68,7 @@ begin_in σ p b = let r = propagate σ p.constraint b in begin_narrowed σ p (is
 -- with no variables, by whether the empty point passes
 unfoldable pub begin_empty : Bool → Answer
 begin_empty true = assignment [] true 0
-begin_empty false = failed unsatisfied +∞ 0
+begin_empty false = failed Stop.Unsatisfied +∞ 0
 
 -- by the number of variables
 unfoldable pub begin_at : Settings → Problem → List Interval → ℕ → Progress
@@ -95,12 +92,12 @@ halved σ c b =
 -- by whether the midpoint passes the check, and whether every interval is narrower than the tolerance
 unfoldable pub settle_checked : Settings → Problem → ℕ → List Interval → Bool → Bool → Progress
 settle_checked σ p h b true narrow = Stopped (assignment (midpoints b) false h)
-settle_checked σ p h b false true = Stopped (failed tolerance (distance σ p.constraint b) h)
+settle_checked σ p h b false true = Stopped (failed Stop.Tolerance (distance σ p.constraint b) h)
 settle_checked σ p h b false false = Going (record { boxes = b; halvings = h })
 
 -- by whether narrowing met a conflict
 unfoldable pub settle_narrowed : Settings → Problem → ℕ → Bool → List Interval → Progress
-settle_narrowed σ p h true b = Stopped (failed conflict +∞ h)
+settle_narrowed σ p h true b = Stopped (failed Stop.Conflict +∞ h)
 settle_narrowed σ p h false b = settle_checked σ p h b (check σ (midpoints b) p.constraint) (all_below p.tolerance b)
 
 unfoldable pub settle_in : Settings → Problem → ℕ → List Interval → Progress
@@ -120,7 +117,7 @@ steps σ p (suc n) (Going s) = steps σ p n (halve σ p s)
 -- what goes on then has reached the limit
 unfoldable pub finish : Settings → Problem → Progress → Answer
 finish σ p (Stopped a) = a
-finish σ p (Going s) = failed limit (distance σ p.constraint s.boxes) s.halvings
+finish σ p (Going s) = failed Stop.Limit (distance σ p.constraint s.boxes) s.halvings
 
 unfoldable pub run : Settings → Problem → ℕ → Progress → Answer
 run σ p n g = finish σ p (steps σ p n g)

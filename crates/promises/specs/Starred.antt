@@ -15,7 +15,8 @@ use Rattle.point.specs.Eval.{eval_real}
 use Rattle.narrow.specs.declared.PropResult.TheVariants.{Changed, Stable, Conflict}
 use Rattle.record.specs.Leaving.{◌leaving◌}
 use Rattle.narrow.specs.Narrowing.{Narrowed, propagate}
-use Rattle.nra.specs.Solver.{limit, unsatisfied, Answer, assignment, failed, Progress, Stopped, Going, begin, halve, solve}
+use Rattle.nra.specs.declared.answer.Stop.{Stop}
+use Rattle.nra.specs.Solver.{Answer, assignment, failed, Progress, Stopped, Going, begin, halve, solve}
 use Rattle.nra.specs.Answers.{problem}
 use Rattle.nra.specs.Computing.{computing}
 
@@ -69,9 +70,9 @@ pub record Starred : Type 0 where
   pub eml_one : eval_real usual [] exp0 ≡ Ok (whole 1)
   pub eml_complex_lem : eval_real usual [] ln_negative ≡ Err (ComplexResult (bits 0x400921FB54442D18))
   pub not_solved : solved (Not (Atom EqZero ln_negative)) [] 10_000 ≡ assignment [] true 0
-  pub normal_form : solved (to_nnf (Not (Atom EqZero ln_negative))) [] 10_000 ≡ failed unsatisfied +∞ 0
+  pub normal_form : solved (to_nnf (Not (Atom EqZero ln_negative))) [] 10_000 ≡ failed Stop.Unsatisfied +∞ 0
   -- ForAll v0 in [0,1] EqZero(One), bounds [0,8], limit 1: 'limit', best 1, halvings 1, box [4,8]
-  pub forall_limit : solved never eight 1 ≡ failed limit (whole 1) 1
+  pub forall_limit : solved never eight 1 ≡ failed Stop.Limit (whole 1) 1
   pub forall_box : after_one (begin usual (problem never (decimal 1 (10 ^ 8))) eight) ≡ Going (record { boxes = (whole 4 ‥ whole 8) ∷ []; halvings = 1 })
 
 pub starred : Starred

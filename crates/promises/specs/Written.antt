@@ -5,7 +5,8 @@ use Rattle.std.proofs.Math.Seq.{paste, take-paste, take-length}
 use Rattle.record.specs.Leaving.{Leaving}
 use Rattle.interval.specs.declared.Interval.{Interval}
 use Rattle.narrow.specs.declared.PropResult.{PropResult}
-use Rattle.nra.specs.Solver.{conflict, tolerance, limit, unsatisfied, Answer, assignment, failed, halvings_of, reached}
+use Rattle.nra.specs.declared.answer.Stop.{Stop}
+use Rattle.nra.specs.Solver.{Answer, assignment, failed, halvings_of, reached}
 use Rattle.nra.specs.Fits.{point_of}
 use Rattle.eml.specs.Answers.{number_of, writing, propagated}
 use Rattle.eml.specs.Places.{Solution, solution_of, solved}
@@ -55,24 +56,24 @@ module _ {x : Result Answer ℕ} {a : Answer} (is : x ≡ Ok a) (old : Solution)
 -- ---- what an answer leaves
 pub limit_left : (a : Answer) (places : List Float) → reached a ≡ true → (solution_of a places).stop ≡ limit_word
 limit_left (assignment m exact h) places e = cc
-limit_left (failed conflict r h) places e = cc
-limit_left (failed tolerance r h) places e = cc
-limit_left (failed limit r h) places e = refl
-limit_left (failed unsatisfied r h) places e = cc
+limit_left (failed Stop.Conflict r h) places e = cc
+limit_left (failed Stop.Tolerance r h) places e = cc
+limit_left (failed Stop.Limit r h) places e = refl
+limit_left (failed Stop.Unsatisfied r h) places e = cc
 
 pub not_limit_left : (a : Answer) (places : List Float) → ((solution_of a places).stop ≡ limit_word → ⊥) → reached a ≡ false
 not_limit_left (assignment m exact h) places n = refl
-not_limit_left (failed conflict r h) places n = refl
-not_limit_left (failed tolerance r h) places n = refl
-not_limit_left (failed limit r h) places n = absurd (n refl)
-not_limit_left (failed unsatisfied r h) places n = refl
+not_limit_left (failed Stop.Conflict r h) places n = refl
+not_limit_left (failed Stop.Tolerance r h) places n = refl
+not_limit_left (failed Stop.Limit r h) places n = absurd (n refl)
+not_limit_left (failed Stop.Unsatisfied r h) places n = refl
 
 limit_reached : (a : Answer) (places : List Float) → (solution_of a places).stop ≡ limit_word → reached a ≡ true
 limit_reached (assignment m exact h) places e = absurd (omega arith)
-limit_reached (failed conflict r h) places e = absurd (omega arith)
-limit_reached (failed tolerance r h) places e = absurd (omega arith)
-limit_reached (failed limit r h) places e = refl
-limit_reached (failed unsatisfied r h) places e = absurd (omega arith)
+limit_reached (failed Stop.Conflict r h) places e = absurd (omega arith)
+limit_reached (failed Stop.Tolerance r h) places e = absurd (omega arith)
+limit_reached (failed Stop.Limit r h) places e = refl
+limit_reached (failed Stop.Unsatisfied r h) places e = absurd (omega arith)
 
 halvings_left : (a : Answer) (places : List Float) → (solution_of a places).halvings ≡ halvings_of a
 halvings_left (assignment m exact h) places = refl
@@ -93,10 +94,10 @@ pub record Assigned (a : Answer) (x : Solution) : Type 0 where
 pub assignment_left : (a : Answer) (places : List Float) → (solution_of a places).stop ≡ assignment_word → Assigned a (solution_of a places)
 assignment_left (assignment m exact h) places e =
     record { exact = exact; halvings = h; is = ap (λ (l : List Float). assignment l exact h) (sym (values_left (assignment m exact h) places)) }
-assignment_left (failed conflict r h) places e = absurd (omega arith)
-assignment_left (failed tolerance r h) places e = absurd (omega arith)
-assignment_left (failed limit r h) places e = absurd (omega arith)
-assignment_left (failed unsatisfied r h) places e = absurd (omega arith)
+assignment_left (failed Stop.Conflict r h) places e = absurd (omega arith)
+assignment_left (failed Stop.Tolerance r h) places e = absurd (omega arith)
+assignment_left (failed Stop.Limit r h) places e = absurd (omega arith)
+assignment_left (failed Stop.Unsatisfied r h) places e = absurd (omega arith)
 
 pub counted_left : (L : ℕ) (a : Answer) (places : List Float) → Counted L (Ok a) → ((solution_of a places).halvings ≤ L) × ((solution_of a places).stop ≡ limit_word → (solution_of a places).halvings ≡ L)
 counted_left L a places c = (omega (arith, halvings_left a places, c.at_most a refl), λ e. halvings_left a places ∙ c.limit_itself a refl (limit_reached a places e))
