@@ -10,8 +10,6 @@ use Rattle.record.specs.Refusal.{◌unless◌, first}
 use Rattle.record.specs.RefusalLaws.{is_refused, both, none_both, none_unless, none_of_each}
 use Rattle.tree.specs.Nodes.{nodes_refusal, nodes_fit, list_refusal, Valid}
 use Rattle.tree.specs.NodeLaws.{list_valid}
-use Rattle.tree.specs.Code.{largest, Within}
-use Rattle.tree.specs.SizeLaws.{list_within}
 use Rattle.constraint.specs.Records.{records_refusal}
 use Rattle.constraint.specs.Starts.{Ready}
 use Rattle.constraint.specs.RecordLaws.{only_left, ready}
@@ -144,9 +142,6 @@ module _ (nodes b : List ℕ) (e : given_refusal nodes b ≡ 0) where
 
   pub given_valid : Valid nodes (length nodes / 16)
   given_valid = list_valid nodes (length nodes / 16) (list_is nodes (length nodes / 16) (given_fit nodes (counted nodes b passed_given.0).0) ∙ passed_given.1)
-
-  pub given_within : {m : ℕ} → m ≡ largest nodes (length nodes / 16) → Within nodes (length nodes / 16) m
-  given_within q = list_within nodes (length nodes / 16) q
 
   pub some_given : 0 < length b / 24
   some_given = (only_left (length nodes / 16) b (length b / 24) passed_given.2).0

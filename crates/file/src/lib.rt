@@ -168,7 +168,7 @@ fn read_records<'a>(nodes: &'a [u8], constraints: &'a [u8]) -> Result<Records<'a
     ensures refusal { refusal_of result ≡ (nodes_refusal nodes.now (length nodes.now / 16) or_else records_refusal (length nodes.now / 16) constraints.now (length constraints.now / 24)) }
     ensures records { IfOk result (Holds nodes.now constraints.now) }
 {
-    tree::test_sizes(nodes, nodes.len() / 16)?;
+    tree::test_list(nodes, nodes.len() / 16)?;
     Records::new(nodes, constraints)
 }
 

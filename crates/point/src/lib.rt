@@ -34,7 +34,7 @@ fn test_node<'a>(nodes: &'a [u8], k: usize, point: &[f64]) -> Result<EmlTree<'a>
         return Err(Refusal::Counts);
     }
     let count = nodes.len() / 16;
-    tree::test_sizes(nodes, count)?;
+    tree::test_list(nodes, count)?;
     if count <= k {
         return Err(Refusal::Node);
     }

@@ -1,7 +1,7 @@
 -- What the tests of a list know of the nodes that they have passed. Assumes nothing.
-use Prim.Native.Nat.{ℕ, zero, suc, ◌+◌, max, ◌<◌}
+use Prim.Native.Nat.{ℕ, zero, suc, ◌+◌, ◌<◌}
 use Rattle.std.specs.Prelude.{◌≡◌, true, false, leb, List, length, get_or, set}
-use Rattle.std.proofs.Common.{refl, ap, ap₂, sym, ◌∙◌, subst, arith, not-suc-le-zero, add-one, leb-true, get_or-set_same}
+use Rattle.std.proofs.Common.{refl, ap, sym, ◌∙◌, subst, arith, not-suc-le-zero, leb-true, get_or-set_same}
 use Rattle.std.proofs.Math.Seq.{get_or-set_other}
 use Rattle.std.proofs.Math.ListN.{length-set}
 use borrow.Author.Count.{below_more}
@@ -11,7 +11,7 @@ use Rattle.record.specs.Refused.{number_of}
 use Rattle.record.specs.declared.refusal.Refusal.{Refusal}
 use Rattle.tree.specs.Tree.{Tree, is_small}
 use Rattle.tree.specs.Nodes.{is_node, tree_at, node_refusal, nodes_refusal, nodes_fit, list_refusal}
-use Rattle.tree.specs.Code.{IsExtent, small_extent, Measured, Held, widened, size_at, largest}
+use Rattle.tree.specs.Code.{IsExtent, small_extent, Measured, Held, widened}
 use Rattle.tree.specs.declared.Extent.{Extent}
 use Rattle.tree.specs.NodeLaws.{fit_parts}
 use Rattle.tree.specs.declared.SmallExtent.{SmallExtent}
@@ -76,9 +76,5 @@ held_more b k es e h m few l = record {
 pub held_all : (b : List ℕ) (k n : ℕ) (es : List SmallExtent) → k ≡ n → Held b k es → Held b n es
 held_all b k n es e h = subst (λ (m : ℕ). Held b m es) e h
 
-pub largest_more : (b : List ℕ) (k m u : ℕ) → m ≡ largest b k → u ≡ size_at b k → max m u ≡ largest b (k + 1)
-unfolding largest
-largest_more b k m u q h = ap₂ max q h ∙ sym (ap (largest b) (add-one k))
-
 -- for the tests of a list
-pub ruleset list_tests = (no_fit, fit_parts, four, measured, third, refused, none_refused, none_more, held_none, held_more, held_all, largest_more)
+pub ruleset list_tests = (no_fit, fit_parts, four, measured, third, refused, none_refused, none_more, held_none, held_more, held_all)

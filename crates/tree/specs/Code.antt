@@ -1,5 +1,5 @@
 -- What the functions below the tests compute, in the terms of their arguments.
-use Rattle.std.specs.Prelude.{ℕ, zero, suc, ◌+◌, max, ◌≤◌, ◌<◌, ◌≡◌, Bool, ◌&&◌, List, leb, ltb, eqb, length, get_or, if◌then◌else◌}
+use Rattle.std.specs.Prelude.{ℕ, ◌+◌, ◌≤◌, ◌<◌, ◌≡◌, Bool, ◌&&◌, List, leb, ltb, eqb, length, get_or, if◌then◌else◌}
 use Rattle.record.specs.Refusal.{◌or_else◌, ◌unless◌}
 use Rattle.tree.specs.Tree.{Tree, size, depth}
 use Rattle.tree.specs.Nodes.{nodes_fit, tree_at, list_refusal}
@@ -15,9 +15,6 @@ left_end kind k = if eqb kind 2 then 16 else right_end kind k
 
 abbrev pub chosen : ℕ → Bool → Bool → Bool
 chosen kind constant other = if eqb kind 1 then constant else other
-
-abbrev pub size_at : List ℕ → ℕ → ℕ
-size_at b k = size (tree_at b k)
 
 -- the size and the depth of a tree
 abbrev pub IsExtent : Tree → Extent → Type 0
@@ -43,15 +40,6 @@ pub record Held (b : List ℕ) (n : ℕ) (es : List SmallExtent) : Type 0 where
   pub few : n ≤ 1024
   pub there : n ≤ length es
   pub each : (k : ℕ) → k < n → Measured (tree_at b k) (widened (get_or es k (record { size = 0; depth = 0 })))
-
--- the size of the largest of the first n trees
-unfoldable pub largest : List ℕ → ℕ → ℕ
-largest b zero = 0
-largest b (suc n) = max (largest b n) (size_at b n)
-
--- the trees of the first n nodes are of at most that size
-abbrev pub Within : List ℕ → ℕ → ℕ → Type 0
-Within b n size = (k : ℕ) → k < n → size_at b k ≤ size
 
 -- the refusals of an append before the result's, and from it on
 unfoldable pub operands_refusal : List ℕ → ℕ → ℕ → ℕ → ℕ

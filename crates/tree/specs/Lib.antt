@@ -6,7 +6,6 @@ pub mod Encoding
 pub mod Frame
 pub mod EncodingLaws
 pub mod Code
-pub mod SizeLaws
 pub mod Canonical
 pub mod CanonicalLaws
 pub mod Computing
