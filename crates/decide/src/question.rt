@@ -80,7 +80,8 @@ impl<'a> Question<'a> {
             settings: self.settings,
             mode: Mode::Negated,
         };
-        let (result, _) = propagator.narrow_boxes(self.records.constraint(), self.boxes());
+        let mut boxes = self.boxes();
+        let result = propagator.propagate(self.records.constraint(), &mut boxes);
         result == PropResult::Conflict
     }
 

@@ -44,18 +44,18 @@ impl Domain {
         }
         Ok(domain)
     }
+}
 
-    // Writes the ends to the first places of two lists.
-    #[tactic(auto, using(crate::proofs::Loops::pasted))]
-    pub fn write_ends(&self, lo: &mut [f64], hi: &mut [f64])
-        requires { (self.now.count.n ≤ length lo.old) × (self.now.count.n ≤ length hi.old) }
-        ensures lo_value { final lo ≡ paste (old lo) 0 (lows (intervals_of self.now)) self.now.count.n }
-        ensures hi_value { final hi ≡ paste (old hi) 0 (highs (intervals_of self.now)) self.now.count.n }
-    {
-        for (i, b) in self.as_slice().iter().enumerate() {
-            lo[i] = b.lo;
-            hi[i] = b.hi;
-        }
+// Writes the ends to the first places of two lists.
+#[tactic(auto, using(crate::proofs::Loops::pasted))]
+pub fn write_ends(boxes: &[Interval], lo: &mut [f64], hi: &mut [f64])
+    requires { (length boxes.now ≤ length lo.old) × (length boxes.now ≤ length hi.old) }
+    ensures lo_value { final lo ≡ paste (old lo) 0 (lows boxes.now) (length boxes.now) }
+    ensures hi_value { final hi ≡ paste (old hi) 0 (highs boxes.now) (length boxes.now) }
+{
+    for (i, b) in boxes.iter().enumerate() {
+        lo[i] = b.lo;
+        hi[i] = b.hi;
     }
 }
 
@@ -75,7 +75,7 @@ pub fn domain_new(
     let bounds = Domain::of_sound_ends(lo, hi)?;
     let count = Count::try_from(n)?;
     if (n <= out_lo.len()) & (n <= out_hi.len()) {
-        bounds.starting(count).write_ends(out_lo, out_hi);
+        write_ends(bounds.starting(count).as_slice(), out_lo, out_hi);
         return Ok(());
     }
     Err(Refusal::Room)

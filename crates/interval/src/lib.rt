@@ -13,7 +13,7 @@ ghost use Rattle.interval.specs.Interval.{◌‥◌, is_empty, width, midpoint, 
 
 pub use count::Count;
 pub use domain::{Domain, all_sound, box_at};
-pub use ends::{domain_is_empty, domain_new};
+pub use ends::{domain_is_empty, domain_new, write_ends};
 pub use point::Point;
 
 #[repr(C)]

@@ -32,9 +32,9 @@ module _ (lo hi : List Float) (t : are_boxes lo hi ≡ true) where
   pub paired : length hi ≡ length lo
   paired = as_many lo hi (boxes_paired lo hi t)
 
-  pub answers : (c : Constraint) {σ : Settings} {w : PropResult} {is : List Interval} {n : ℕ} {lo' hi' : List Float} → σ ≡ usual → (w leaving is) ≡ propagate σ c (intervals lo hi)
-      → n ≡ length lo → length is ≡ n → lo' ≡ paste lo 0 (lows is) n → hi' ≡ paste hi 0 (highs is) n → (Ok w leaving (lo', hi')) ≡ answered ends (propagate usual c (intervals lo hi))
-  answers c {w = w} {is = is} {n = n} s h e l p q =
-      rw (p, q, written lo (lows is) n (sym e) (lows_length is ∙ l), written hi (highs is) n (paired ∙ sym e) (highs_length is ∙ l), ← s, ← h) refl
+  pub answers : (c : Constraint) {σ : Settings} {w : PropResult} {is : List Interval} {lo' hi' : List Float} → σ ≡ usual → (w leaving is) ≡ propagate σ c (intervals lo hi)
+      → length is ≡ length lo → lo' ≡ paste lo 0 (lows is) (length is) → hi' ≡ paste hi 0 (highs is) (length is) → (Ok w leaving (lo', hi')) ≡ answered ends (propagate usual c (intervals lo hi))
+  answers c {w = w} {is = is} s h e p q =
+      rw (p, q, written lo (lows is) (length is) (sym e) (lows_length is), written hi (highs is) (length is) (paired ∙ sym e) (highs_length is), ← s, ← h) refl
 
 pub ruleset given = (refusals, none_unless, paired)

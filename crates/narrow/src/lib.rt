@@ -66,15 +66,6 @@ impl Propagator {
         }
         done
     }
-
-    // The same on boxes by value.
-    pub fn narrow_boxes(self, c: EmlConstraint, domain: Domain) -> (PropResult, Domain)
-        ensures { (result.1.count.n ≡ domain.count.n) × ((result.0 leaving intervals_of result.1) ≡ propagate_of self.settings (in_mode self.mode (meaning c.entry)) (intervals_of domain)) }
-    {
-        let mut boxes = domain;
-        let result = self.propagate(c, &mut boxes);
-        (result, boxes)
-    }
 }
 
 // The tests in document 01's order, then `propagate` by the one constraint that the records leave. A refusal alters nothing.
@@ -88,12 +79,12 @@ pub fn propagate_given(
     ensures { (numbered result leaving (final lo, final hi)) ≡ propagate_given usual nodes.now constraints.now (old lo) (old hi) }
 {
     let records = file::read_given(nodes, constraints)?;
-    let domain = Domain::of_sound_ends(lo, hi)?;
+    let mut domain = Domain::of_sound_ends(lo, hi)?;
     let propagator = Propagator {
         settings: settings::usual(),
         mode: Mode::Written,
     };
-    let (result, narrowed) = propagator.narrow_boxes(records.constraint(), domain);
-    narrowed.write_ends(lo, hi);
+    let result = propagator.propagate(records.constraint(), &mut domain);
+    interval::write_ends(domain.as_slice(), lo, hi);
     Ok(result)
 }

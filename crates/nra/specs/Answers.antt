@@ -65,12 +65,12 @@ progress_of (Break a) = Stopped (answer_of a)
 abbrev pub narrowed : Task → Domain → Narrowed
 narrowed t d = propagate t.settings (the_constraint t.records) (intervals_of d)
 
--- from the boxes d it meets no conflict, and leaves as many, with their midpoint
-pub record Narrows (t : Task) (d : Domain) (x : Domain × Point) : Type 0 where
+-- from the boxes d it meets no conflict, and leaves as many, e, of which m is the midpoint
+pub record Narrows (t : Task) (d e : Domain) (m : Point) : Type 0 where
   pub none : is_conflict (narrowed t d).answer ≡ false
-  pub kept : x.0.count.n ≡ d.count.n
-  pub boxes : intervals_of x.0 ≡ (narrowed t d).places
-  pub middle : values_of x.1 ≡ midpoints (intervals_of x.0)
+  pub kept : e.count.n ≡ d.count.n
+  pub boxes : intervals_of e ≡ (narrowed t d).places
+  pub middle : values_of m ≡ midpoints (intervals_of e)
 
 -- it meets a conflict after h halvings, and a says so
 pub record Conflicts (t : Task) (d : Domain) (h : ℕ) (a : Solved) : Type 0 where

@@ -2,6 +2,7 @@
 #![tactic(auto, using(crate::proofs::Steps::tried_failed), unfolding(crate::specs::Solver::begin_in, crate::specs::Solver::begin_narrowed, crate::specs::Solver::begin_checked, crate::specs::Solver::settle_in, crate::specs::Solver::settle_narrowed, crate::specs::Solver::settle_checked, crate::specs::Solver::halve, crate::specs::Solver::distance, crate::specs::Solver::run, crate::specs::Solver::finish, crate::specs::Answers::tried, number::specs::Computing::computing))]
 
 ghost use Rattle.std.specs.Prelude.{◌≡◌, ◌-◌, ◌<◌};
+ghost use Rattle.record.specs.Views.{old, final};
 
 use super::answer::{Solved, Stop};
 use super::halving::Task;
@@ -26,15 +27,15 @@ impl<'a> Task<'a> {
     ghost use Rattle.nra.specs.Answers.{asked, answer_of, state_of, progress_of, Narrows, Conflicts, tried, tried_in};
     ghost use Rattle.nra.specs.Solver.{Going, begin_in, settle_in, halve, steps, finish};
 
-    // The narrowed boxes and their midpoint, unless narrowing meets a conflict.
-    fn narrow(&self, start: Domain, halvings: usize) -> ControlFlow<Solved, (Domain, Point)>
-        ensures { MatchControlFlow result (Narrows self.now start) (Conflicts self.now start halvings) }
+    // Narrows the boxes, and answers their midpoint, unless narrowing meets a conflict.
+    fn narrow(&self, boxes: &mut Domain, halvings: usize) -> ControlFlow<Solved, Point>
+        ensures { MatchControlFlow result (Narrows self.now (old boxes) (final boxes)) (Conflicts self.now (old boxes) halvings) }
     {
         let propagator = Propagator {
             settings: self.settings,
             mode: Mode::Written,
         };
-        let (result, boxes) = propagator.narrow_boxes(self.records.constraint(), start);
+        let result = propagator.propagate(self.records.constraint(), boxes);
         if result == PropResult::Conflict {
             return Break(Solved::Failed {
                 stop: Stop::Conflict,
@@ -42,14 +43,15 @@ impl<'a> Task<'a> {
                 halvings,
             });
         }
-        Continue((boxes, boxes.midpoints()))
+        Continue(boxes.midpoints())
     }
 
     // All before the first halving.
     pub fn begin(&self, start: Domain, stack: &mut Stack) -> ControlFlow<Solved, State>
         ensures { progress_of result ≡ begin_in self.now.settings (asked self.now) (intervals_of start) }
     {
-        let (boxes, point) = self.narrow(start, 0)?;
+        let mut boxes = start;
+        let point = self.narrow(&mut boxes, 0)?;
         if self.passes(&point, stack) {
             return Break(Solved::Assignment {
                 point,
@@ -64,7 +66,8 @@ impl<'a> Task<'a> {
     fn settle(&self, half: Domain, halvings: usize, stack: &mut Stack) -> ControlFlow<Solved, State>
         ensures { progress_of result ≡ settle_in self.now.settings (asked self.now) halvings (intervals_of half) }
     {
-        let (boxes, point) = self.narrow(half, halvings)?;
+        let mut boxes = half;
+        let point = self.narrow(&mut boxes, halvings)?;
         if self.passes(&point, stack) {
             return Break(Solved::Assignment {
                 point,

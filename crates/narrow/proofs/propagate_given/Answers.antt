@@ -1,8 +1,6 @@
 -- `narrow::propagate_given` meets its contract. Assumes nothing.
 use mathlib.Core.Bool.{true}
 use mathlib.Core.Path.{◌≡◌, sym, ◌∙◌}
-use native.Mathlib.Omega.{arith}
-use Rattle.std.proofs.Common.{rules, length, length-take-le}
 use Rattle.record.specs.RefusalLaws.{none_unless}
 use Rattle.interval.specs.Boxes.{are_boxes}
 use Rattle.narrow.specs.Given.{propagate_given}
@@ -15,7 +13,7 @@ unfolding propagate_given
 returns c =
     let d = c.in_ok-domain.ensures in
     let t : are_boxes c.args.lo.now c.args.hi.now ≡ true = none_unless 8 _ (sym d.refusal) in
-    let x = c.narrow_boxes-result in
-    let n : length x.result.1.boxes ≡ 16 = search rules in
+    let x = c.propagate-result in
+    let s = c.as_slice.ensures in
     boxes_taken _ _ _ _ c.in_ok-records.ensures.constraint t
-    (answers _ _ t _ c.usual.ensures (rw (c.constraint.ensures.meaning, d.value.1) at x.ensures.1) (x.ensures.0 ∙ d.value.0) (length-take-le _ _ (omega (arith, n, x.result.1.count.few))) c.write_ends.ensures.lo_value c.write_ends.ensures.hi_value)
+    (answers _ _ t _ c.usual.ensures (rw (c.constraint.ensures.meaning, d.value.1, ← s.0) at x.ensures.boxes) (s.1 ∙ x.ensures.count ∙ d.value.0) c.write_ends.ensures.lo_value c.write_ends.ensures.hi_value)
