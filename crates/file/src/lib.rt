@@ -174,7 +174,8 @@ fn read_records<'a>(nodes: &'a [u8], constraints: &'a [u8]) -> Result<Records<'a
 
 // ---- what other crates call
 
-// The tests of a file, and what it says.
+// The tests of a file, and what it says. A caller that asks for the refusal alone makes no boxes.
+#[inline(always)]
 #[tactic(auto, using(crate::proofs::Parts::file_tests))]
 pub fn read(file: &[u8]) -> Result<Problem<'_>, Refusal>
     ensures refusal { refusal_of result ≡ refusal file.now }

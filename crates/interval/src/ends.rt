@@ -34,6 +34,7 @@ impl Domain {
 
     // And each of them sound.
     #[tactic(auto, using(record::specs::RefusalLaws::never_none), unfolding(crate::specs::Boxes::are_boxes))]
+    #[inline(always)]
     pub fn of_sound_ends(lo: &[f64], hi: &[f64]) -> Result<Domain, Refusal>
         ensures refusal { refusal_of result ≡ (9 unless are_boxes lo.now hi.now) }
         ensures value { IfOk result (λ d. (d.count.n ≡ length lo.now) × (intervals_of d ≡ intervals lo.now hi.now)) }

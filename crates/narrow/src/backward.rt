@@ -37,6 +37,7 @@ fn left_of(l: Interval, range: Interval) -> Interval
 
 // What an Eml that is to lie in out asks of its children, or answers at once: out = exp(left) - ln(right).
 #[tactic(auto, using(crate::proofs::Choices::choices), unfolding(crate::specs::Narrowing::ask, crate::specs::Aiming::common_of))]
+#[inline(always)]
 pub fn ask(out: Interval, c: Children) -> Result<Pair, PropResult>
     ensures { result ≡ ask_of out c }
 {

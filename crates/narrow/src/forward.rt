@@ -3,7 +3,7 @@
 
 ghost use Rattle.std.specs.Prelude.{◌≡◌};
 ghost use Rattle.tree.specs.Views.{the_tree};
-ghost use Rattle.narrow.specs.Narrowing.{eml_interval, eval_interval, children};
+ghost use Rattle.narrow.specs.Narrowing.{eml_interval, forward, eval_interval, children};
 
 use crate::PropResult;
 use interval::Interval;
@@ -30,7 +30,9 @@ fn eml_interval(l: Interval, r: Interval) -> Option<Interval>
     None
 }
 
-// The interval of the tree's values, where real arithmetic can tell.
+// The interval of the tree's values, where real arithmetic can tell. A leaf, which half of the nodes are, costs no call.
+#[inline(always)]
+#[cycle(forward)]
 pub fn eval_interval(tree: EmlTree, boxes: &[Interval]) -> Option<Interval>
     ensures { result ≡ eval_interval boxes.now (the_tree tree.entry) }
 {
@@ -38,12 +40,18 @@ pub fn eval_interval(tree: EmlTree, boxes: &[Interval]) -> Option<Interval>
         Node::One => Some(Interval::point(1.0)),
         Node::Const(v) => Some(Interval::point(v)),
         Node::Var(i) => Some(interval::box_at(boxes, i)),
-        Node::Eml(left, right) => {
-            let l = eval_interval(left, boxes)?;
-            let r = eval_interval(right, boxes)?;
-            eml_interval(l, r)
-        }
+        Node::Eml(left, right) => eval_eml(left, right, boxes),
     }
+}
+
+// An Eml's, by those of its children.
+#[cycle(forward)]
+fn eval_eml(left: EmlTree, right: EmlTree, boxes: &[Interval]) -> Option<Interval>
+    ensures { result ≡ forward (eval_interval boxes.now (the_tree left.entry)) (eval_interval boxes.now (the_tree right.entry)) }
+{
+    let l = eval_interval(left, boxes)?;
+    let r = eval_interval(right, boxes)?;
+    eml_interval(l, r)
 }
 
 // An Eml's children, and what is computed of them forward.
@@ -56,6 +64,7 @@ pub struct Children {
 }
 
 // Those of an Eml of two trees, or what it answers at once: an `Err` is such an answer and no failure, and `?` hands it on.
+#[inline(always)]
 pub fn eml_children(
     left: EmlTree,
     right: EmlTree,

@@ -2,7 +2,7 @@
 #![tactic(auto, unfolding(crate::specs::Eval::clamped, crate::specs::Eval::beyond, crate::specs::Eval::eml_complex, crate::specs::Eval::numeric, crate::specs::Eval::variable, crate::specs::Eval::real_part, crate::specs::Eval::eval_real, number::specs::Computing::computing))]
 
 ghost use Rattle.std.specs.Prelude.{◌≡◌, ◌≤◌, ◌+◌, length};
-ghost use Rattle.tree.specs.Tree.{depth};
+ghost use Rattle.tree.specs.Tree.{Tree, depth};
 ghost use Rattle.point.specs.Eval.{real as real_of, clamped, beyond, eml_complex, variable as variable_of, eval_complex, real_part, eval_real};
 ghost use Rattle.point.specs.Machine.{postorder, pushed, reduced, step as stepped, run as running, height, ran};
 ghost use Rattle.tree.specs.Views.{the_tree};
@@ -100,6 +100,7 @@ fn reduce(settings: &Settings, stack: &mut Stack) -> Result<Complex, EvalError>
     eml_complex(*settings, left, right)
 }
 
+#[inline(always)]
 #[tactic(auto, unfolding(crate::specs::Machine::step, number::specs::Computing::computing))]
 fn step(
     instruction: Instruction,
@@ -120,7 +121,9 @@ fn step(
     Ok(())
 }
 
-// Runs the tree's instructions in postorder.
+// Runs the tree's instructions in postorder. A leaf, which half of the nodes are, costs no call.
+#[inline(always)]
+#[cycle(run)]
 #[tactic(auto, using(crate::proofs::Machine::run_means), unfolding(crate::specs::Eval::eval_complex, crate::specs::Machine::step, tree::specs::Tree::depth))]
 fn run(
     tree: EmlTree,
@@ -131,17 +134,30 @@ fn run(
     requires { length stack.old + depth (the_tree tree) ≤ 128 }
     ensures { ran result stack.new ≡ running settings.now point.now (postorder (the_tree tree.entry)) stack.old }
 {
-    let instruction = match tree.node() {
-        Node::One => Instruction::PushOne,
-        Node::Const(v) => Instruction::PushConst(v),
-        Node::Var(i) => Instruction::PushVar(i),
-        Node::Eml(left, right) => {
-            run(left, settings, point, stack)?;
-            run(right, settings, point, stack)?;
-            Instruction::Eml
-        }
-    };
-    step(instruction, settings, point, stack)
+    match tree.node() {
+        Node::One => step(Instruction::PushOne, settings, point, stack),
+        Node::Const(v) => step(Instruction::PushConst(v), settings, point, stack),
+        Node::Var(i) => step(Instruction::PushVar(i), settings, point, stack),
+        Node::Eml(left, right) => run_eml(left, right, settings, point, stack),
+    }
+}
+
+// An Eml's: those of its children, then its own.
+#[cycle(run)]
+#[tactic(auto, using(crate::proofs::Machine::run_means), unfolding(crate::specs::Eval::eval_complex, crate::specs::Machine::step, tree::specs::Tree::depth))]
+fn run_eml(
+    left: EmlTree,
+    right: EmlTree,
+    settings: &Settings,
+    point: &[f64],
+    stack: &mut Stack,
+) -> Result<(), EvalError>
+    requires { length stack.old + depth (Tree.Eml (the_tree left) (the_tree right)) ≤ 128 }
+    ensures { ran result stack.new ≡ running settings.now point.now (postorder (Tree.Eml (the_tree left.entry) (the_tree right.entry))) stack.old }
+{
+    run(left, settings, point, stack)?;
+    run(right, settings, point, stack)?;
+    step(Instruction::Eml, settings, point, stack)
 }
 
 // The stack is lent, so that it is made once for many evaluations.
