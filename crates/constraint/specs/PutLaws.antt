@@ -24,10 +24,6 @@ pub puts_one : (b : List ℕ) {b₁ : List ℕ} (at : ℕ) (r : Record) → b₁
 unfolding records_bytes
 puts_one b at r e = record { counted = refl; put = e ∙ ap (sets b (24 * at)) (sym (append-nil (record_bytes r))) }
 
-pub puts_alone : {b c : List ℕ} {at n : ℕ} {r : Record} → Puts b c at n (r ∷ []) → c ≡ sets b (24 * at) (record_bytes r)
-unfolding records_bytes
-puts_alone {b} {at = at} {r = r} p = p.put ∙ ap (sets b (24 * at)) (append-nil (record_bytes r))
-
 pub puts_then : (b : List ℕ) {b₁ b₂ : List ℕ} (at : ℕ) {n m : ℕ} (xs ys : List Record) → Puts b b₁ at n xs → Puts b₁ b₂ n m ys → Puts b b₂ at m (xs ++ ys)
 puts_then b at xs ys p q = record {
   counted = q.counted ∙ omega (arith, p.counted, length-append xs ys);

@@ -1,6 +1,6 @@
 -- Laws of files that are laid out, and of files and records that are accepted: what a function that takes one cites. Assumes nothing.
 use Rattle.std.specs.Prelude.{ℕ, ◌+◌, ◌*◌, ◌/◌, ◌%◌, ◌≤◌, ◌<◌, ◌≡◌, true, ◌&&◌, List, [], leb, eqb, length}
-use Rattle.std.proofs.Common.{sym, ◌∙◌, arith, length-take}
+use Rattle.std.proofs.Common.{sym, arith, length-take}
 use borrow.Author.Tests.{leb-true, eqb-true, le-leb}
 use Rattle.std.specs.Float.{binary64}
 use Rattle.std.proofs.Math.ListN.{length-drop}
@@ -8,11 +8,9 @@ use Rattle.number.specs.Sound.{sound}
 use Rattle.record.specs.Bytes.{u32_at}
 use Rattle.record.specs.Refusal.{◌unless◌, first}
 use Rattle.record.specs.RefusalLaws.{is_refused, both, none_both, none_unless, none_of_each}
-use Rattle.tree.specs.Nodes.{nodes_refusal, nodes_fit, list_refusal, Valid}
-use Rattle.tree.specs.NodeLaws.{list_valid}
+use Rattle.tree.specs.Nodes.{nodes_refusal, nodes_fit, list_refusal}
 use Rattle.constraint.specs.Records.{records_refusal}
-use Rattle.constraint.specs.Starts.{Ready}
-use Rattle.constraint.specs.RecordLaws.{only_left, ready}
+use Rattle.constraint.specs.RecordLaws.{only_left}
 use Rattle.file.specs.File.{node_count, constraint_count, bound_count, constraints_from, bounds_from, nodes_of, constraints_of, bounds_of, is_headed, is_laid_out, bound_at, bounds, bound_refusal, refusal, Read, Refused, Accepted, read_by, left, read_file, is_counted, given_refusal, read_given}
 use Rattle.file.specs.Code.{Laid}
 
@@ -54,10 +52,6 @@ module _ (file : List ℕ) (l : Laid file) where
   pub length_bounds : length (bounds_of file) ≡ 16 * bound_count file
   unfolding bounds_of
   length_bounds = let s = l.size in simp length-drop (omega arith)
-
-  pub nodes_fit_lem : nodes_fit (length (nodes_of file)) (node_count file) ≡ true
-  unfolding nodes_fit
-  nodes_fit_lem = rw (le-leb (node_count file) 1024 l.few_nodes, le-leb (16 * node_count file) (length (nodes_of file)) (omega (arith, length_nodes)))
 
 -- a list that fits has only its nodes' refusals
 pub list_is : (b : List ℕ) (n : ℕ) → nodes_fit (length b) n ≡ true → list_refusal b n ≡ nodes_refusal b n
@@ -103,12 +97,6 @@ module _ (file : List ℕ) (e : refusal file ≡ 0) where
       let w₄ = none_both (records_refusal (node_count file) (constraints_of file) (constraint_count file)) _ w₃.1 in
       (none_unless 0 (is_headed file) w₁.0, none_unless 1 (is_laid_out file) w₂.0, w₃.0, w₄.0, w₄.1)
 
-  pub is_laid : Laid file
-  is_laid = laid file passed.1
-
-  pub file_valid : Valid (nodes_of file) (node_count file)
-  file_valid = list_valid (nodes_of file) (node_count file) (list_is (nodes_of file) (node_count file) (nodes_fit_lem file is_laid) ∙ passed.2)
-
   pub some_constraint : 0 < constraint_count file
   some_constraint = (only_left (node_count file) (constraints_of file) (constraint_count file) passed.3).0
 
@@ -116,20 +104,9 @@ module _ (file : List ℕ) (e : refusal file ≡ 0) where
   unfolding bound_refusal
   bound_sound k l = none_unless 5 _ (none_of_each (bound_refusal (bounds_of file)) (bound_count file) passed.4 k l)
 
-  pub file_ready : Ready (nodes_of file) (constraints_of file) (constraint_count file)
-  file_ready =
-      let count : length (nodes_of file) / 16 ≡ node_count file = omega (arith, length_nodes file is_laid) in
-      ready (nodes_of file) (constraints_of file) (constraint_count file) (rw count passed.3) (rw count file_valid) is_laid.few_constraints
-      (omega (arith, length_constraints file is_laid))
-
   pub read_is : read_file file ≡ Accepted (left (nodes_of file) (constraints_of file) (constraint_count file)) (bounds (bounds_of file) (bound_count file))
   unfolding read_file
   read_is = rw e
-
--- the same for bodies and a count that are the file's
-module _ (file : List ℕ) (e : refusal file ≡ 0) (nodes b : List ℕ) (n : ℕ) (en : nodes ≡ nodes_of file) (eb : b ≡ constraints_of file) (ec : n ≡ constraint_count file) where
-  pub last_is : read_file file ≡ Accepted (left nodes b n) (bounds (bounds_of file) (bound_count file))
-  last_is = rw (en, eb, ec) (read_is file e)
 
 -- ---- accepted records
 module _ (nodes b : List ℕ) (e : given_refusal nodes b ≡ 0) where
@@ -139,15 +116,6 @@ module _ (nodes b : List ℕ) (e : given_refusal nodes b ≡ 0) where
       let w₁ = none_both (2 unless is_counted nodes b) _ e in
       let w₂ = none_both (nodes_refusal nodes (length nodes / 16)) _ w₁.1 in
       (none_unless 1 (is_counted nodes b) w₁.0, w₂.0, w₂.1)
-
-  pub given_valid : Valid nodes (length nodes / 16)
-  given_valid = list_valid nodes (length nodes / 16) (list_is nodes (length nodes / 16) (given_fit nodes (counted nodes b passed_given.0).0) ∙ passed_given.1)
-
-  pub some_given : 0 < length b / 24
-  some_given = (only_left (length nodes / 16) b (length b / 24) passed_given.2).0
-
-  pub given_ready : Ready nodes b (length b / 24)
-  given_ready = ready nodes b (length b / 24) passed_given.2 given_valid (counted nodes b passed_given.0).1 (omega arith)
 
   pub given_is : read_given nodes b ≡ Accepted (left nodes b (length b / 24)) []
   unfolding read_given

@@ -81,21 +81,6 @@ module _ (lo hi : List Float) where
   unfolding are_boxes
   boxes_all_sound e = (both (are_paired lo hi) (all_sound (intervals lo hi)) e).1
 
--- the first n of each
-pub first_length : (n : ℕ) (lo hi : List Float) → n ≤ length lo → length hi ≡ length lo → length (intervals (take n lo) (take n hi)) ≡ n
-first_length n lo hi h e =
-    let l = length-take-le n lo h in
-    intervals_length (take n lo) (take n hi) (length-take-le n hi (omega arith) ∙ sym l) ∙ l
-
-pub first_at : (n : ℕ) (lo hi : List Float) (j : ℕ) (d : Interval) → n ≤ length lo → length hi ≡ length lo → j < n → (get_or lo j nan ‥ get_or hi j nan) ≡ get_or (intervals (take n lo) (take n hi)) j d
-first_at n lo hi j d h e l =
-    let x = length-take-le n lo h in
-    let y = length-take-le n hi (omega arith) in
-    rw (← get_or-take n lo j nan l, ← get_or-take n hi j nan l) (intervals_at (take n lo) (take n hi) j d (y ∙ sym x) (omega arith))
-
-pub first_set : (n : ℕ) (lo hi : List Float) (j : ℕ) (a b : Float) → j < n → intervals (take n (set lo j a)) (take n (set hi j b)) ≡ set (intervals (take n lo) (take n hi)) j (a ‥ b)
-first_set n lo hi j a b h = rw (take-set-lt n lo j a h, take-set-lt n hi j b h) (intervals_set (take n lo) (take n hi) j a b)
-
 pub starting_more : (n : ℕ) (bounds : List Interval) → starting (suc n) bounds ≡ starting n bounds ++ get_or bounds n missing ∷ []
 unfolding starting
 starting_more zero [] = refl
@@ -115,13 +100,7 @@ unfolding starting
 starting_all [] = refl
 starting_all (b ∷ bounds) = ap (λ (r : List Interval). b ∷ r) (starting_all bounds)
 
-pub all_there : (lo hi : List Float) → are_paired lo hi ≡ true → {b : List Interval} → b ≡ starting (length lo) (intervals lo hi) → b ≡ intervals lo hi
-all_there lo hi e q = q ∙ ap (λ (n : ℕ). starting n (intervals lo hi)) (sym (intervals_length lo hi (as_many lo hi e))) ∙ starting_all (intervals lo hi)
-
 -- ---- boxes by value
-pub boxes_length : (d : Domain) → length d.boxes ≡ 16 → length (intervals_of d) ≡ d.count.n
-boxes_length d e = let few = d.count.few in length-take-le d.count.n d.boxes (omega arith)
-
 pub boxes_at : (d : Domain) (j : ℕ) → j < d.count.n → get_or d.boxes j missing ≡ get_or (intervals_of d) j missing
 boxes_at d j l = sym (get_or-take d.count.n d.boxes j missing l)
 

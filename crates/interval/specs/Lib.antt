@@ -3,8 +3,6 @@ pub mod Boxes
 pub mod Domain
 pub mod Views
 pub mod BoxLaws
-pub mod PlacesLaws
-pub mod DomainLaws
 pub mod Choices
 pub mod Inside
 pub mod Computing

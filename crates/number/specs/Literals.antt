@@ -1,7 +1,7 @@
 -- Numbers as the code's literals have them, by their bits, and as the definitions do. Assumes nothing.
 use Rattle.std.specs.Prelude.{◌≡◌, refl}
-use Rattle.std.specs.Float.{nan, binary64}
-use Rattle.std.specs.Float.Ieee.{div, neg, of_bits, of_int}
+use Rattle.std.specs.Float.{binary64}
+use Rattle.std.specs.Float.Ieee.{div, of_bits, of_int}
 use Rattle.number.specs.Notation.{bits, whole, +∞, -∞}
 
 pub zero_is : whole 0 ≡ bits 0
@@ -12,24 +12,12 @@ pub one_is : bits 0x3ff0_0000_0000_0000 ≡ whole 1
 unfolding of_bits of_int
 one_is = refl
 
-pub two_is : bits 0x4000_0000_0000_0000 ≡ whole 2
-unfolding of_bits of_int
-two_is = refl
-
--- 1.0 / 0.0, -1.0 / 0.0 and 0.0 / 0.0
+-- 1.0 / 0.0
 pub infinite : div binary64 (bits 0x3ff0_0000_0000_0000) (bits 0) ≡ +∞
 unfolding div of_bits
 infinite = refl
 
-pub minus_infinite : div binary64 (neg (bits 0x3ff0_0000_0000_0000)) (bits 0) ≡ -∞
-unfolding div of_bits neg
-minus_infinite = refl
-
-pub undefined : div binary64 (bits 0) (bits 0) ≡ nan
-unfolding div of_bits
-undefined = refl
-
--- f64::INFINITY, f64::NEG_INFINITY and f64::NAN
+-- f64::INFINITY and f64::NEG_INFINITY
 pub infinity_is : bits 0x7ff0_0000_0000_0000 ≡ +∞
 unfolding of_bits
 infinity_is = refl
@@ -37,7 +25,3 @@ infinity_is = refl
 pub minus_infinity_is : bits 0xfff0_0000_0000_0000 ≡ -∞
 unfolding of_bits
 minus_infinity_is = refl
-
-pub nan_is : bits 0x7ff8_0000_0000_0000 ≡ nan
-unfolding of_bits
-nan_is = refl

@@ -3,7 +3,7 @@ use Rattle.std.specs.Prelude.{ℕ, zero, suc, ◌+◌, ◌*◌, ◌/◌, ◌%◌
 use Rattle.std.proofs.Common.{sym, ap, ◌∙◌, add-zero, add-suc, suc-add, arith, length-set, get_or-set_same, get_or-set_other}
 use Rattle.std.proofs.Math.Nat.{div-div-eq-div-mul}
 use Rattle.std.proofs.lemmas.List.Edits.{sets}
-use Rattle.record.specs.Bytes.{u32_at, u32_bytes, u64_bytes}
+use Rattle.record.specs.Bytes.{u32_at, u32_bytes}
 
 pub u32_same : (b c : List ℕ) (i j : ℕ) → ((o : ℕ) → o < 4 → get_or b (i + o) 0 ≡ get_or c (j + o) 0) → u32_at b i ≡ u32_at c j
 unfolding u32_at
@@ -21,10 +21,6 @@ sets_sets b (x ∷ u) v at next e = sets_sets (set b at x) u v (suc at) next (e 
 
 pub then_bytes : (b : List ℕ) {b₁ b₂ : List ℕ} (at next : ℕ) (us vs : List ℕ) → b₁ ≡ sets b at us → b₂ ≡ sets b₁ next vs → next ≡ at + length us → b₂ ≡ sets b at (us ++ vs)
 then_bytes b at next us vs e₁ e₂ h = e₂ ∙ ap (λ (l : List ℕ). sets l next vs) e₁ ∙ sets_sets b us vs at next h
-
-pub two_words : (b : List ℕ) {b₁ b₂ : List ℕ} (at n : ℕ) → b₁ ≡ sets b at (u32_bytes (n % 2 ^ 32)) → b₂ ≡ sets b₁ (at + 4) (u32_bytes (n / 2 ^ 32)) → b₂ ≡ sets b at (u64_bytes n)
-unfolding u64_bytes u32_bytes
-two_words b at n e₁ e₂ = then_bytes b at (at + 4) (u32_bytes (n % 2 ^ 32)) (u32_bytes (n / 2 ^ 32)) e₁ e₂ refl
 
 pub four_words : (b : List ℕ) {b₁ b₂ b₃ b₄ : List ℕ} (at p q r s : ℕ) → b₁ ≡ sets b at (u32_bytes p) → b₂ ≡ sets b₁ (at + 4) (u32_bytes q) →
     b₃ ≡ sets b₂ (at + 8) (u32_bytes r) → b₄ ≡ sets b₃ (at + 12) (u32_bytes s) → b₄ ≡ sets b at (u32_bytes p ++ u32_bytes q ++ u32_bytes r ++ u32_bytes s)

@@ -1,6 +1,5 @@
 -- Refusals are document 01's numbers; 0 stands for no refusal.
-use Rattle.std.specs.Prelude.{ℕ, zero, suc, Bool, true, false, List, eqb, set}
-use Rattle.number.specs.Notation.{when◌then◌else◌}
+use Rattle.std.specs.Prelude.{ℕ, zero, suc, Bool, true, false}
 
 infixr 20 ◌or_else◌
 infix 30 ◌unless◌
@@ -23,13 +22,3 @@ refused_or (suc r) refused answer = refused (suc r)
 unfoldable pub first : (ℕ → ℕ) → ℕ → ℕ
 first refusal zero = 0
 first refusal (suc n) = first refusal n or_else refusal n
-
--- how many of them come before the first that is refused
-unfoldable pub passing : (ℕ → ℕ) → ℕ → ℕ
-passing refusal zero = 0
-passing refusal (suc n) = when eqb (first refusal (suc n)) 0 then suc n else passing refusal n
-
--- a list whose first n places a loop has filled: place k with f k
-unfoldable pub filled : (ℕ → ℕ) → ℕ → List ℕ → List ℕ
-filled f zero old = old
-filled f (suc n) old = set (filled f n old) n (f n)

@@ -1,14 +1,10 @@
 -- Laws of the first refusal, for a loop that meets the records one by one. Assumes nothing.
-use Prim.Native.Nat.{ℕ, zero, suc, ◌+◌, ◌≤◌, ◌<◌}
-use Rattle.std.specs.Prelude.{◌≡◌, Bool, true, false, ◌&&◌, List, length, set}
-use Rattle.std.proofs.Math.Path.{refl, ap, subst}
-use Rattle.std.proofs.Common.{sym, ◌∙◌, true≢false, le_of_suc-le-suc, not-suc-le-zero, eq-or-lt_of_le, add-one, arith, ne_eqb, get_or-set_same}
+use Prim.Native.Nat.{ℕ, zero, suc, ◌+◌, ◌<◌}
+use Rattle.std.specs.Prelude.{◌≡◌, Bool, true, false, ◌&&◌}
+use Rattle.std.proofs.Math.Path.{refl, ap}
+use Rattle.std.proofs.Common.{sym, ◌∙◌, true≢false, le_of_suc-le-suc, not-suc-le-zero, eq-or-lt_of_le, add-one, arith}
 use Rattle.std.proofs.Math.Logic.{⊎_elim}
-use Rattle.std.proofs.Math.Dec.{eqb}
-use Rattle.std.proofs.Math.ListN.{get_or, length-set}
-use Rattle.std.proofs.Math.Seq.{get_or-set_other}
-use Rattle.number.specs.Notation.{when◌then◌else◌}
-use Rattle.record.specs.Refusal.{◌or_else◌, ◌unless◌, refused_or, first, passing, filled}
+use Rattle.record.specs.Refusal.{◌or_else◌, ◌unless◌, refused_or, first}
 use Rattle.record.specs.Refused.{number_of}
 use Rattle.record.specs.declared.refusal.Refusal.{Refusal}
 use Rattle.std.specs.Prelude.{Result, Err}
@@ -64,11 +60,6 @@ module _ (f : ℕ → ℕ) where
       let w = none_both (first f n) (f n) e in
       ⊎_elim (λ q. ap f q ∙ w.1) (λ q. none_of_each n w.0 k q) (eq-or-lt_of_le (le_of_suc-le-suc l))
 
-  pub passing_all : (n : ℕ) → first f n ≡ 0 → passing f n ≡ n
-  unfolding passing when◌then◌else◌
-  passing_all zero e = refl
-  passing_all (suc n) e = ap (λ (r : ℕ). when eqb r 0 then suc n else passing f n) e
-
   -- none before record k, and a refusal there
   module _ (r k : ℕ) (none : first f k ≡ 0) (here : f k ≡ suc r) where
     pub first_here : (n : ℕ) → k < n → first f n ≡ suc r
@@ -79,33 +70,6 @@ module _ (f : ℕ → ℕ) where
         (λ q. ap (λ (j : ℕ). first f j or_else f j) (sym q) ∙ ap (λ (x : ℕ). x or_else f k) none ∙ here)
         (λ q. ap (λ (x : ℕ). x or_else f n) (first_here n q))
         (eq-or-lt_of_le (le_of_suc-le-suc l))
-
-    pub passing_here : (n : ℕ) → k < n → passing f n ≡ k
-    unfolding passing when◌then◌else◌
-    passing_here zero l = absurd (not-suc-le-zero l)
-    passing_here (suc n) l =
-        ap (λ (t : Bool). when t then suc n else passing f n) (ne_eqb (first f (suc n)) 0 (λ z. omega (arith, first_here (suc n) l)))
-        ∙ ⊎_elim (λ q. ap (passing f) (sym q) ∙ passing_all k none) (λ q. passing_here n q) (eq-or-lt_of_le (le_of_suc-le-suc l))
-
--- ---- places that a loop fills
-module _ (f : ℕ → ℕ) (old : List ℕ) where
-  pub length_filled : (n : ℕ) → length (filled f n old) ≡ length old
-  unfolding filled
-  length_filled zero = refl
-  length_filled (suc n) = length-set (filled f n old) n (f n) ∙ length_filled n
-
-  pub filled_more : (n : ℕ) → set (filled f n old) n (f n) ≡ filled f (n + 1) old
-  unfolding filled
-  filled_more n = ap (λ (m : ℕ). filled f m old) (sym (add-one n))
-
-  pub filled_at : (n k : ℕ) → k < n → n ≤ length old → get_or (filled f n old) k 0 ≡ f k
-  unfolding filled
-  filled_at zero k l h = absurd (not-suc-le-zero l)
-  filled_at (suc n) k l h =
-      ⊎_elim
-      (λ e. subst (λ (j : ℕ). get_or (set (filled f n old) n (f n)) j 0 ≡ f j) (sym e) (get_or-set_same (filled f n old) n (f n) 0 (omega (arith, length_filled n))))
-      (λ q. get_or-set_other (filled f n old) n k (f n) 0 (omega arith) ∙ filled_at n k q (omega arith))
-      (eq-or-lt_of_le (le_of_suc-le-suc l))
 
 -- ---- what a call answers
 pub never_none : (r : Refusal) → number_of r ≡ 0 → ⊥

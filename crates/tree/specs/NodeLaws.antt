@@ -105,14 +105,8 @@ module _ (b : List ℕ) (n : ℕ) (v : Valid b n) where
   prefix m h = record { few = omega (arith, v.few); there = omega (arith, v.there); each = λ k l. v.each k (omega arith) }
 
   module _ (k : ℕ) (l : k < n) where
-    pub in_bytes : 16 * k + 16 ≤ length b
-    in_bytes = omega (arith, v.there)
-
     pub is_node_lem : is_node b k ≡ true
     is_node_lem = (passed b k (v.each k l)).0
-
-    pub size_small : size (tree_at b k) ≤ 4096
-    size_small = (small_parts (tree_at b k) (passed b k (v.each k l)).1).0
 
     pub depth_small : depth (tree_at b k) ≤ 128
     depth_small = (small_parts (tree_at b k) (passed b k (v.each k l)).1).1
