@@ -63,7 +63,8 @@ pub struct Children {
     pub ln_right: Interval,
 }
 
-// Those of an Eml of two trees, or what it answers at once: an `Err` is such an answer and no failure, and `?` hands it on.
+// Those of an Eml of two trees, or what it answers at once: an `Err` is such an answer and no failure, and `?` hands it on. (Inlined, as `ask` and
+// `of_sound_ends`: an answer of several intervals is else written to memory and read again.)
 #[inline(always)]
 pub fn eml_children(
     left: EmlTree,
