@@ -392,7 +392,7 @@ enum { EML_PROP_CHANGED = 0, EML_PROP_STABLE = 1, EML_PROP_CONFLICT = 2 };
 uint8_t eml_propagate(const uint8_t *nodes, size_t nodes_length, const uint8_t *constraints, size_t constraints_length,
                       double *lo, size_t lo_length, double *hi, size_t hi_length, uint8_t *answer);
 
-/* The same on a list of intervals, where it lies. */
+/* The same on one list of intervals, which it alters. */
 uint8_t eml_propagate_intervals(const uint8_t *nodes, size_t nodes_length, const uint8_t *constraints,
                                 size_t constraints_length, eml_interval *boxes, size_t boxes_length, uint8_t *answer);
 

@@ -255,7 +255,7 @@ pub fn propagate(
     })
 }
 
-/// Narrows a list of intervals where it lies, as [`propagate`].
+/// Narrows one list of intervals, which it alters, as [`propagate`].
 pub fn propagate_intervals(
     records: Records<'_>,
     boxes: &mut [Interval],

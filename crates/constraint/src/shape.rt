@@ -141,6 +141,7 @@ impl<'a> Operands<'a> {
         };
         Some((last, before))
     }
+
     // The most variables that one of them has.
     #[cycle(num_vars)]
     fn num_vars(self) -> usize

@@ -199,7 +199,7 @@ fn cos_at(r: f64) -> f64
     cos_sum(r * r)
 }
 
-// How many quarter turns b is, to the nearest; and what they leave of b.
+// How many quarter turns b is, to the nearest.
 #[tactic(auto, using(std::proofs::lemmas::Float::not_nan_f64_bits, crate::proofs::Range::times_quarter, number::specs::Below::wider, number::specs::Below::nearest_small), unfolding(crate::specs::Trig::turns))]
 fn turns_of(b: f64) -> i64
     requires { T (below (2 ^ 20 + 1) b) }
@@ -208,6 +208,7 @@ fn turns_of(b: f64) -> i64
     number::nearest(b * f64::from_bits(0x3FE45F306DC9C883))
 }
 
+// What they leave of b.
 #[tactic(auto, using(std::proofs::lemmas::Float::not_nan_f64_bits), unfolding(crate::specs::Trig::rest))]
 fn rest_of(b: f64, n: i64) -> f64
     requires { mag n < 2 ^ 21 }
