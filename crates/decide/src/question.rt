@@ -81,7 +81,7 @@ impl<'a> Question<'a> {
             mode: Mode::Negated,
         };
         let mut boxes = self.boxes();
-        let result = propagator.propagate(self.records.constraint(), &mut boxes);
+        let result = propagator.narrow(self.records.constraint(), &mut boxes);
         result == PropResult::Conflict
     }
 

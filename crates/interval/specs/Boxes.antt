@@ -64,3 +64,7 @@ are_paired lo hi = eqb (length lo) (length hi) && leb (length lo) 16
 
 unfoldable pub are_boxes : List Float → List Float → Bool
 are_boxes lo hi = are_paired lo hi && all_sound (intervals lo hi)
+
+-- likewise one list of intervals
+abbrev pub is_domain : List Interval → Bool
+is_domain b = leb (length b) 16 && all_sound b

@@ -1,13 +1,10 @@
 // Boxes: an interval for each variable (IntervalDomain of interval.rs).
-ghost use Rattle.std.specs.Prelude.{◌≡◌, ◌<◌, ◌≤◌, ◌&&◌, leb, length, get_or, set, replicate, IfOk};
-ghost use Rattle.record.specs.Refusal.{◌unless◌};
-ghost use Rattle.record.specs.Refused.{refusal_of};
-ghost use Rattle.interval.specs.Boxes.{missing, starting, midpoints, all_below, widest, any_empty, all_sound};
+ghost use Rattle.std.specs.Prelude.{◌≡◌, ◌<◌, ◌≤◌, length, get_or, set, replicate};
+ghost use Rattle.interval.specs.Boxes.{missing, starting, midpoints, all_below, widest, any_empty, all_sound, is_domain};
 
 use super::Interval;
 use super::count::Count;
 use super::point::Point;
-use record::Refusal;
 
 // The box of a variable beyond the list.
 pub const MISSING: Interval = Interval {
@@ -29,6 +26,13 @@ pub fn all_sound(boxes: &[Interval]) -> bool
     ensures { result ≡ all_sound boxes.now }
 {
     boxes.iter().all(|b| b.is_sound())
+}
+
+// Whether a call takes the list: at most 16 boxes, and each sound.
+pub fn is_domain(boxes: &[Interval]) -> bool
+    ensures { result ≡ is_domain boxes.now }
+{
+    boxes.len() <= 16 && all_sound(boxes)
 }
 
 // At most 16 boxes by value: the first `count` of the list. (An array and a count: no heap. Not one generic list for boxes and values: the
@@ -77,17 +81,13 @@ impl Domain {
         domain
     }
 
-    // The boxes that a call takes: at most 16, and each box sound; else 9.
+    // A copy of the boxes.
     #[tactic(auto, using(crate::specs::BoxLaws::starting_all))]
-    pub fn of_sound(boxes: &[Interval]) -> Result<Domain, Refusal>
-        ensures refusal { refusal_of result ≡ (9 unless leb (length boxes.now) 16 && all_sound boxes.now) }
-        ensures value { IfOk result (λ d. (d.count.n ≡ length boxes.now) × (intervals_of d ≡ boxes.now)) }
+    pub fn of_list(boxes: &[Interval]) -> Domain
+        requires { length boxes.now ≤ 16 }
+        ensures { (result.count.n ≡ length boxes.now) × (intervals_of result ≡ boxes.now) }
     {
-        let count = Count::try_from(boxes.len())?;
-        if !all_sound(boxes) {
-            return Err(Refusal::Boxes);
-        }
-        Ok(Self::new(boxes, count))
+        Self::new(boxes, Count { n: boxes.len() })
     }
 
     pub fn as_slice(&self) -> &[Interval]

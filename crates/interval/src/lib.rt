@@ -12,7 +12,7 @@ ghost use Rattle.number.specs.Sound.{sound};
 ghost use Rattle.interval.specs.Interval.{◌‥◌, is_empty, width, midpoint, contains, split, intersect, hull, exp, has_ln, ln, plus, minus, moves};
 
 pub use count::Count;
-pub use domain::{Domain, all_sound, box_at};
+pub use domain::{Domain, all_sound, box_at, is_domain};
 pub use ends::{domain_is_empty, domain_new, write_ends};
 pub use point::Point;
 

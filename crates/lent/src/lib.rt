@@ -1,5 +1,4 @@
-// `propagate` on the caller's own list of intervals (document 01, "Forms of the Rust to recast"): the tests, and then the narrowing. The list is copied
-// to a `Domain`, narrowed there and copied back.
+// `propagate` on the caller's own list of intervals (document 01, "Forms of the Rust to recast"): the tests, and then the narrowing, of the list itself.
 #![tactic(auto, using(narrow::specs::GivenLaws::refusals), unfolding(crate::specs::Lent::propagate_lent))]
 
 ghost use Rattle.std.specs.Prelude.{◌≡◌};
@@ -9,7 +8,7 @@ ghost use Rattle.record.specs.Refused.{numbered};
 ghost use Rattle.record.specs.Views.{old, final};
 ghost use Rattle.lent.specs.Lent.{propagate_lent};
 
-use interval::{Domain, Interval};
+use interval::Interval;
 use narrow::{Mode, PropResult, Propagator};
 use record::Refusal;
 
@@ -22,12 +21,12 @@ pub fn propagate(
     ensures { (numbered result leaving final boxes) ≡ propagate_lent usual nodes.now constraints.now (old boxes) }
 {
     let records = file::read_given(nodes, constraints)?;
-    let mut domain = Domain::of_sound(boxes)?;
+    if !interval::is_domain(boxes) {
+        return Err(Refusal::Boxes);
+    }
     let propagator = Propagator {
         settings: settings::usual(),
         mode: Mode::Written,
     };
-    let result = propagator.propagate(records.constraint(), &mut domain);
-    boxes.copy_from_slice(domain.as_slice());
-    Ok(result)
+    Ok(propagator.propagate(records.constraint(), boxes))
 }

@@ -53,6 +53,10 @@ unfoldable mutual
   pass_any σ w end b so_far = so_far
   pass_any σ w (c ⨾ cs) b so_far = pass_any σ w cs b (survive so_far (pass σ w c b))
 
+-- one of several is to hold
+abbrev pub pass_or : Settings → Mode → Constraints → List Interval → Narrowed
+pass_or σ w cs b = adopt_survivors σ (pass_any σ w cs b None) b
+
 -- ---- the same as the definition's
 -- one step of And, by two narrowings that are equal
 pub step : (x y : Narrowed) (f g : List Interval → Narrowed) → x ≡ y → ((b : List Interval) → f b ≡ g b) → continue x f ≡ continue y g

@@ -1,5 +1,5 @@
 // Narrowing (document 01; interval.rs): a constraint tightens the boxes of its variables, or finds that nothing in them meets it. The
-// boxes are a `Domain`; inside an atom, a lent list of them.
+// boxes are a lent list of at most 16.
 #![tactic(auto)]
 
 mod atom; // one atom
@@ -7,7 +7,7 @@ mod backward; // from a node down to the variables
 mod forward; // the interval of a tree's values
 mod round; // a constraint, once
 
-ghost use Rattle.std.specs.Prelude.{◌≡◌};
+ghost use Rattle.std.specs.Prelude.{◌≡◌, ◌≤◌, length};
 ghost use Rattle.interval.specs.Views.{intervals_of};
 ghost use Rattle.record.specs.Leaving.{◌leaving◌};
 ghost use Rattle.record.specs.Views.{old, final};
@@ -21,7 +21,7 @@ ghost use Rattle.settings.specs.Settings.{usual};
 pub use backward::backward_propagate;
 use constraint::EmlConstraint;
 pub use forward::eval_interval;
-use interval::Domain;
+use interval::{Domain, Interval};
 use record::Refusal;
 pub use round::{Mode, Propagator};
 use settings::Settings;
@@ -52,19 +52,28 @@ impl From<PropResult> for u8 {
 impl Propagator {
     // In rounds until nothing changes or a Conflict, at most as many as the settings say.
     #[tactic(auto, using(crate::proofs::Rounds::ends))]
-    pub fn propagate(self, c: EmlConstraint, domain: &mut Domain) -> PropResult
-        ensures count { domain.new.count.n ≡ domain.old.count.n }
-        ensures boxes { (result leaving intervals_of (final domain)) ≡ propagate_of self.settings (in_mode self.mode (meaning c.entry)) (intervals_of (old domain)) }
+    pub fn propagate(self, c: EmlConstraint, boxes: &mut [Interval]) -> PropResult
+        requires { length boxes.old ≤ 16 }
+        ensures { (result leaving final boxes) ≡ propagate_of self.settings (in_mode self.mode (meaning c.entry)) (old boxes) }
     {
         let mut done = PropResult::Stable;
         for _ in 0..self.settings.rounds {
-            let result = self.propagate_once(c, domain);
+            let result = self.propagate_once(c, boxes);
             done = done.max(result);
             if result != PropResult::Changed {
                 return done;
             }
         }
         done
+    }
+
+    // The same of boxes that are held by value.
+    pub fn narrow(self, c: EmlConstraint, domain: &mut Domain) -> PropResult
+        ensures count { domain.new.count.n ≡ domain.old.count.n }
+        ensures boxes { (result leaving intervals_of (final domain)) ≡ propagate_of self.settings (in_mode self.mode (meaning c.entry)) (intervals_of (old domain)) }
+    {
+        let n = domain.count.n;
+        self.propagate(c, &mut domain.boxes[..n])
     }
 }
 
@@ -84,7 +93,7 @@ pub fn propagate_given(
         settings: settings::usual(),
         mode: Mode::Written,
     };
-    let result = propagator.propagate(records.constraint(), &mut domain);
+    let result = propagator.narrow(records.constraint(), &mut domain);
     interval::write_ends(domain.as_slice(), lo, hi);
     Ok(result)
 }

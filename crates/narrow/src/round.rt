@@ -1,22 +1,21 @@
 // One round: a constraint's atoms narrow in their order, and an Or goes on with what its branches leave.
 #![tactic(auto, using(crate::proofs::Choices::choices), unfolding(crate::specs::Narrowing::survive, crate::specs::Narrowing::hull_with, crate::specs::Narrowing::tightened, crate::specs::Narrowing::adopt_survivors))]
 
-ghost use Rattle.std.specs.Prelude.{◌≡◌, None, option_map};
+ghost use Rattle.std.specs.Prelude.{◌≡◌, ◌≤◌, length, None, option_map};
 ghost use Rattle.interval.specs.Views.{intervals_of};
 ghost use Rattle.tree.specs.Views.{the_tree};
 ghost use Rattle.record.specs.Leaving.{◌leaving◌};
 ghost use Rattle.record.specs.Views.{old, final};
 ghost use Rattle.constraint.specs.Records.{gather};
 ghost use Rattle.constraint.specs.Views.{meaning, meanings};
-ghost use Rattle.narrow.specs.Narrowing.{narrow_atom as atom_of, hulls, survive as survive_of, tightened, adopt as adopt_of, adopt_survivors};
-ghost use Rattle.narrow.specs.Modes.{under_not, relation_in, pass, pass_all, pass_any};
+ghost use Rattle.narrow.specs.Narrowing.{hulls, survive as survive_of, tightened, adopt as adopt_of, adopt_survivors};
+ghost use Rattle.narrow.specs.Modes.{under_not, relation_in, pass, pass_all, pass_any, pass_or};
 
 use crate::PropResult;
 use crate::atom::narrow_atom;
 use constraint::{EmlConstraint, Operands, Relation, Shape};
 use interval::{Count, Domain, Interval};
 use settings::Settings;
-use tree::EmlTree;
 
 // ---- the branches of an Or
 
@@ -73,15 +72,15 @@ fn adopt(settings: Settings, hull: &[Interval], boxes: &mut [Interval]) -> PropR
     result
 }
 
-fn adopt_survivors(settings: Settings, survivors: Option<Domain>, domain: &mut Domain) -> PropResult
-    ensures count { domain.new.count.n ≡ domain.old.count.n }
-    ensures boxes { (result leaving intervals_of (final domain)) ≡ adopt_survivors settings (option_map intervals_of survivors) (intervals_of (old domain)) }
+fn adopt_survivors(
+    settings: Settings,
+    survivors: Option<Domain>,
+    boxes: &mut [Interval],
+) -> PropResult
+    ensures { (result leaving final boxes) ≡ adopt_survivors settings (option_map intervals_of survivors) (old boxes) }
 {
     match survivors {
-        Some(hull) => {
-            let n = domain.count.n;
-            adopt(settings, hull.as_slice(), &mut domain.boxes[..n])
-        }
+        Some(hull) => adopt(settings, hull.as_slice(), boxes),
         None => PropResult::Conflict,
     }
 }
@@ -124,40 +123,33 @@ pub struct Propagator {
     pub mode: Mode,
 }
 
-// Each says that the count stays: it is a field, which `intervals_of` does not name.
+// Of at most 16 boxes: each branch of an Or is a copy by value.
 impl Propagator {
-    fn narrow_atom(self, relation: Relation, tree: EmlTree, domain: &mut Domain) -> PropResult
-        ensures count { domain.new.count.n ≡ domain.old.count.n }
-        ensures boxes { (result leaving intervals_of (final domain)) ≡ atom_of self.settings (relation_in self.mode relation) (the_tree tree.entry) (intervals_of (old domain)) }
-    {
-        let n = domain.count.n;
-        let relation = self.mode.relation(relation);
-        narrow_atom(tree, self.settings, relation, &mut domain.boxes[..n])
-    }
-
     // A round. Under a Not the Rust narrows by the normal form of what is inside: the mode says so, and nothing is built.
     #[tactic(auto, unfolding(crate::specs::Modes::pass))]
     #[cycle(round)]
-    pub fn propagate_once(self, c: EmlConstraint, domain: &mut Domain) -> PropResult
-        ensures count { domain.new.count.n ≡ domain.old.count.n }
-        ensures boxes { (result leaving intervals_of (final domain)) ≡ pass self.settings self.mode (meaning c.entry) (intervals_of (old domain)) }
+    pub fn propagate_once(self, c: EmlConstraint, boxes: &mut [Interval]) -> PropResult
+        requires { length boxes.old ≤ 16 }
+        ensures { (result leaving final boxes) ≡ pass self.settings self.mode (meaning c.entry) (old boxes) }
     {
         match c.shape() {
-            Shape::Atom(relation, tree) => self.narrow_atom(relation, tree, domain),
+            Shape::Atom(relation, tree) => {
+                narrow_atom(tree, self.settings, self.mode.relation(relation), boxes)
+            }
             Shape::Not(inside) => {
                 let under = Propagator {
                     mode: self.mode.under_not(),
                     ..self
                 };
-                under.propagate_once(inside, domain)
+                under.propagate_once(inside, boxes)
             }
             Shape::And(cs) => match self.mode {
-                Mode::Written | Mode::Normal => self.narrow_all(cs, domain),
-                Mode::Negated => self.narrow_any(cs, domain),
+                Mode::Written | Mode::Normal => self.narrow_all(cs, boxes),
+                Mode::Negated => self.narrow_any(cs, boxes),
             },
             Shape::Or(cs) => match self.mode {
-                Mode::Written | Mode::Normal => self.narrow_any(cs, domain),
-                Mode::Negated => self.narrow_all(cs, domain),
+                Mode::Written | Mode::Normal => self.narrow_any(cs, boxes),
+                Mode::Negated => self.narrow_all(cs, boxes),
             },
             Shape::ForAll(_, _, _, _) | Shape::Exists(_, _, _, _) => PropResult::Stable,
         }
@@ -166,40 +158,50 @@ impl Propagator {
     // All of them, oldest first, up to a Conflict.
     #[tactic(auto, using(crate::proofs::Passes::several))]
     #[cycle(round)]
-    fn narrow_all(self, cs: Operands, domain: &mut Domain) -> PropResult
-        ensures count { domain.new.count.n ≡ domain.old.count.n }
-        ensures boxes { (result leaving intervals_of (final domain)) ≡ pass_all self.settings self.mode (gather (meanings cs.entry)) (intervals_of (old domain)) }
+    fn narrow_all(self, cs: Operands, boxes: &mut [Interval]) -> PropResult
+        requires { length boxes.old ≤ 16 }
+        ensures { (result leaving final boxes) ≡ pass_all self.settings self.mode (gather (meanings cs.entry)) (old boxes) }
     {
         let Some((last, others)) = cs.split_last() else {
             return PropResult::Stable;
         };
-        let before = self.narrow_all(others, domain);
+        let before = self.narrow_all(others, boxes);
         if before == PropResult::Conflict {
             return before;
         }
-        before.max(self.propagate_once(last, domain))
+        before.max(self.propagate_once(last, boxes))
     }
 
     // One of them is to hold: the hull of those that survive is adopted.
     #[cycle(round)]
-    fn narrow_any(self, cs: Operands, domain: &mut Domain) -> PropResult
-        ensures count { domain.new.count.n ≡ domain.old.count.n }
-        ensures boxes { (result leaving intervals_of (final domain)) ≡ adopt_survivors self.settings (pass_any self.settings self.mode (gather (meanings cs.entry)) (intervals_of (old domain)) None) (intervals_of (old domain)) }
+    fn narrow_any(self, cs: Operands, boxes: &mut [Interval]) -> PropResult
+        requires { length boxes.old ≤ 16 }
+        ensures { (result leaving final boxes) ≡ pass_or self.settings self.mode (gather (meanings cs.entry)) (old boxes) }
     {
-        let survivors = self.survivors_of(cs, domain);
-        adopt_survivors(self.settings, survivors, domain)
+        let survivors = self.survivors_of(cs, boxes);
+        adopt_survivors(self.settings, survivors, boxes)
     }
 
     // The hull of those that survive, each narrowed from the same boxes.
     #[tactic(auto, using(crate::proofs::Passes::several))]
     #[cycle(round)]
-    fn survivors_of(self, cs: Operands, domain: &Domain) -> Option<Domain>
-        ensures { option_map intervals_of result ≡ pass_any self.settings self.mode (gather (meanings cs.entry)) (intervals_of domain.now) None }
+    fn survivors_of(self, cs: Operands, boxes: &[Interval]) -> Option<Domain>
+        requires { length boxes.now ≤ 16 }
+        ensures { option_map intervals_of result ≡ pass_any self.settings self.mode (gather (meanings cs.entry)) boxes.now None }
     {
         let (last, others) = cs.split_last()?;
-        let so_far = self.survivors_of(others, domain);
-        let mut branch = *domain;
-        let result = self.propagate_once(last, &mut branch);
+        let so_far = self.survivors_of(others, boxes);
+        let mut branch = Domain::of_list(boxes);
+        let result = self.narrow_branch(last, &mut branch);
         survive(so_far, result, branch)
+    }
+
+    // A round on a branch's copy.
+    #[cycle(round)]
+    fn narrow_branch(self, c: EmlConstraint, branch: &mut Domain) -> PropResult
+        ensures { (result leaving intervals_of (final branch)) ≡ pass self.settings self.mode (meaning c.entry) (intervals_of (old branch)) }
+    {
+        let n = branch.count.n;
+        self.propagate_once(c, &mut branch.boxes[..n])
     }
 }

@@ -35,7 +35,7 @@ impl<'a> Task<'a> {
             settings: self.settings,
             mode: Mode::Written,
         };
-        let result = propagator.propagate(self.records.constraint(), boxes);
+        let result = propagator.narrow(self.records.constraint(), boxes);
         if result == PropResult::Conflict {
             return Break(Solved::Failed {
                 stop: Stop::Conflict,

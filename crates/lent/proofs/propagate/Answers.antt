@@ -1,15 +1,21 @@
 -- `lent::propagate` meets its contract. Assumes nothing.
-use mathlib.Core.Path.{sym, ap}
-use Rattle.record.specs.RefusalLaws.{none_unless}
-use Rattle.narrow.specs.GivenLaws.{boxes_taken}
+use mathlib.Core.Path.{◌≡◌, refl, sym, ap, ◌∙◌}
+use mathlib.Core.Bool.{true, false}
+use Rattle.record.specs.declared.refusal.Refusal.{Refusal}
+use Rattle.interval.specs.Boxes.{is_domain}
+use Rattle.narrow.specs.GivenLaws.{boxes_refused, boxes_taken}
 use Rattle.narrow.specs.Given.{answered}
 use Rattle.lent.specs.Lent.{propagate_lent}
 use Rattle.lent.proofs.propagate.Goals as goal
 
+pub returns-then-not-is_domain : goal.returns-then-not-is_domain
+unfolding propagate_lent
+returns-then-not-is_domain c =
+    let t : is_domain c.args.boxes.now ≡ false = sym c.is_domain.ensures ∙ c.if-not-is_domain.true in
+    boxes_refused _ _ _ _ c.in_ok-records.ensures.constraint Refusal.Boxes _ (rw t refl)
+
 pub returns : goal.returns
 unfolding propagate_lent
 returns c =
-    let d = c.in_ok-domain.ensures in
-    rw (c.copy_from_slice.ensures.after, c.as_slice.ensures.0)
-    (boxes_taken _ _ _ _ c.in_ok-records.ensures.constraint (none_unless 8 _ (sym d.refusal))
-    (ap (answered (λ x. x)) (rw (c.constraint.ensures.meaning, c.usual.ensures, d.value.1) at c.propagate-result.ensures.boxes)))
+    let t : is_domain c.args.boxes.now ≡ true = sym c.is_domain.ensures ∙ c.if-not-is_domain.false in
+    boxes_taken _ _ _ _ c.in_ok-records.ensures.constraint t (ap (answered (λ x. x)) (rw (c.constraint.ensures.meaning, c.usual.ensures) at c.propagate.ensures))

@@ -13,7 +13,7 @@ unfolding propagate_given
 returns c =
     let d = c.in_ok-domain.ensures in
     let t : are_boxes c.args.lo.now c.args.hi.now ≡ true = none_unless 8 _ (sym d.refusal) in
-    let x = c.propagate-result in
+    let x = c.narrow-result in
     let s = c.as_slice.ensures in
     boxes_taken _ _ _ _ c.in_ok-records.ensures.constraint t
     (answers _ _ t _ c.usual.ensures (rw (c.constraint.ensures.meaning, d.value.1, ← s.0) at x.ensures.boxes) (s.1 ∙ x.ensures.count ∙ d.value.0) c.write_ends.ensures.lo_value c.write_ends.ensures.hi_value)
