@@ -2,7 +2,6 @@
 // are appended: number count + 3 of ln, count + 6 of sub.
 ghost use Rattle.std.specs.Prelude.{◌≡◌};
 ghost use Rattle.record.specs.Leaving.{◌leaving◌};
-ghost use Rattle.record.specs.Refused.{refusal_of};
 ghost use Rattle.tree.specs.Canonical as Canonical;
 ghost use Rattle.constraint.specs.Comparison.{compared};
 ghost use Rattle.constraint.specs.declared.Relation.{Relation};

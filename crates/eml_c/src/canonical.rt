@@ -5,7 +5,7 @@ ghost use Rattle.tree.specs.Canonical as Canonical;
 ghost use Rattle.constraint.specs.Comparison.{compared};
 ghost use Rattle.constraint.specs.declared.Relation.{Relation};
 ghost use Rattle.record.specs.Views.{old, final};
-ghost use Rattle.eml.specs.Answers.{number_of, appended};
+ghost use Rattle.eml.specs.Answers.{appended};
 
 #[unsafe(no_mangle)]
 pub extern "C" fn eml_canonical_ln(nodes: &mut [u8], count: usize, x: usize) -> u8

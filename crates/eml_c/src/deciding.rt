@@ -1,7 +1,7 @@
 // The exports of `eml::deciding`.
-ghost use Rattle.std.specs.Prelude.{◌≡◌, ◌≤◌, length};
+ghost use Rattle.std.specs.Prelude.{length};
 ghost use Rattle.settings.specs.Settings.{usual};
-ghost use Rattle.decide.specs.Deciding.{verdict_number, decide_forall_given, decide_exists_given};
+ghost use Rattle.decide.specs.Deciding.{decide_forall_given, decide_exists_given};
 ghost use Rattle.record.specs.Views.{old};
 ghost use Rattle.eml.specs.Places.{Decides};
 

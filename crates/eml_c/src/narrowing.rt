@@ -2,7 +2,7 @@
 ghost use Rattle.std.specs.Prelude.{◌≡◌};
 ghost use Rattle.record.specs.Leaving.{◌leaving◌};
 ghost use Rattle.settings.specs.Settings.{usual};
-ghost use Rattle.narrow.specs.Given.{result_number, propagate_given};
+ghost use Rattle.narrow.specs.Given.{propagate_given};
 ghost use Rattle.lent.specs.Lent.{propagate_lent};
 ghost use Rattle.record.specs.Views.{old, final};
 ghost use Rattle.eml.specs.Answers.{writing, propagated};

@@ -4,7 +4,7 @@ ghost use Rattle.record.specs.Leaving.{◌leaving◌};
 ghost use Rattle.settings.specs.Settings.{usual};
 ghost use Rattle.point.specs.Answer.{eval_answer, check_answer, residual_answer};
 ghost use Rattle.record.specs.Views.{old, final};
-ghost use Rattle.eml.specs.Answers.{placed, failed, evaluated, evaluation_before, evaluation_after};
+ghost use Rattle.eml.specs.Answers.{placed, evaluated, evaluation_before, evaluation_after};
 
 #[unsafe(no_mangle)]
 pub extern "C" fn eml_check(

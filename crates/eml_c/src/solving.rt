@@ -1,5 +1,5 @@
 // The exports of `eml::solving`.
-ghost use Rattle.std.specs.Prelude.{◌≤◌, length};
+ghost use Rattle.std.specs.Prelude.{length};
 ghost use Rattle.settings.specs.Settings.{usual};
 ghost use Rattle.nra.specs.Calls.{solve_file, solve_given};
 ghost use Rattle.record.specs.Views.{old};

@@ -9,7 +9,7 @@ ghost use Rattle.interval.specs.Views.{intervals_of};
 ghost use Rattle.constraint.specs.Constraint.{num_vars};
 ghost use Rattle.constraint.specs.Records.{records_refusal};
 ghost use Rattle.constraint.specs.Views.{the_constraint};
-ghost use Rattle.file.specs.File.{node_count, constraint_count, bound_count, nodes_of, constraints_of, bounds_of, is_headed, is_laid_out, bound_at, bounds, bound_refusal, refusal, Accepted, read_file, given_refusal, read_given};
+ghost use Rattle.file.specs.File.{node_count, constraint_count, nodes_of, constraints_of, bounds_of, is_headed, is_laid_out, bound_at, bounds, bound_refusal, refusal, Accepted, read_file, given_refusal, read_given};
 ghost use Rattle.file.specs.Code.{Laid, Holds, header_refusal};
 ghost use Rattle.file.specs.Answer.{answered};
 

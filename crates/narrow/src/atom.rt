@@ -5,7 +5,7 @@ ghost use Rattle.std.specs.Prelude.{◌≡◌};
 ghost use Rattle.tree.specs.Views.{the_tree};
 ghost use Rattle.record.specs.Leaving.{◌leaving◌};
 ghost use Rattle.record.specs.Views.{old, final};
-ghost use Rattle.narrow.specs.Narrowing.{eval_interval, ask_both, fails, target_of, nudge_var, nudge_tree, narrow_atom};
+ghost use Rattle.narrow.specs.Narrowing.{eval_interval, fails, target_of, nudge_var, nudge_tree, narrow_atom};
 ghost use Rattle.narrow.specs.Aiming.{aimed, aim_at};
 
 use crate::PropResult;

@@ -24,7 +24,6 @@ pub use forward::eval_interval;
 use interval::{Domain, Interval};
 use record::Refusal;
 pub use round::{Mode, Propagator};
-use settings::Settings;
 
 // What a step of narrowing did, the worst last.
 #[derive(Clone, Copy, PartialEq, Eq, PartialOrd, Ord)]

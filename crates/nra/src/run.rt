@@ -23,7 +23,6 @@ pub struct State {
 impl<'a> Task<'a> {
     ghost use Rattle.std.specs.ControlFlow.{MatchControlFlow};
     ghost use Rattle.interval.specs.Views.{intervals_of};
-    ghost use Rattle.constraint.specs.Views.{the_constraint};
     ghost use Rattle.nra.specs.Answers.{asked, answer_of, state_of, progress_of, Narrows, Conflicts, tried, tried_in};
     ghost use Rattle.nra.specs.Solver.{Going, begin_in, settle_in, halve, steps, finish};
 
