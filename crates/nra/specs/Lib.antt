@@ -1,6 +1,7 @@
 pub mod Solver
 pub mod Words
 pub mod Answers
+pub mod RunLaws
 pub mod Calls
 pub mod Widths
 pub mod Fits

@@ -1,5 +1,5 @@
 -- The count of halvings is at most the limit, and raising the limit changes no answer but "limit". Assumes nothing.
-use Rattle.std.specs.Prelude.{◌≡◌, Bool, List}
+use Rattle.std.specs.Prelude.{◌≡◌, List}
 use Rattle.std.proofs.Math.Path.{refl}
 use Rattle.std.proofs.Common.{sym, ◌∙◌, subst, arith}
 use Prim.Native.Nat.{ℕ, zero, suc, ◌+◌, ◌≤◌, ◌<◌}
@@ -7,58 +7,10 @@ use Rattle.std.proofs.Math.Bool.{true, false}
 use Rattle.std.proofs.lemmas.Bool.{false≢true}
 use Rattle.settings.specs.declared.Settings.{Settings}
 use Rattle.interval.specs.declared.Interval.{Interval}
-use Rattle.nra.specs.Solver.{Problem, Answer, assignment, failed, halvings_of, reached, State, Progress, Stopped, Going, begin_checked, begin_narrowed, begin_empty, begin_in, begin_at, begin, settle_checked, settle_narrowed, settle_in, halve, steps, finish, run, untried, solve}
-
--- a run that has made h halvings, and has not stopped at the limit
-data Made (h : ℕ) : Progress → Type 0 where
-  stopped : {a : Answer} → halvings_of a ≡ h → reached a ≡ false → Made h (Stopped a)
-  going : {s : State} → s.halvings ≡ h → Made h (Going s)
+use Rattle.nra.specs.Solver.{Problem, Answer, assignment, failed, halvings_of, reached, State, Progress, Stopped, Going, begin, halve, steps, finish, run, untried, solve}
+use Rattle.nra.specs.RunLaws.{Made, stopped, going, begin_counted, halve_counted, run_stopped}
 
 module _ (σ : Settings) (p : Problem) (bounds : List Interval) where
-  settle_checked_counted : (h : ℕ) (b : List Interval) (passes narrow : Bool) → Made h (settle_checked σ p h b passes narrow)
-  unfolding settle_checked
-  settle_checked_counted h b true n = stopped refl refl
-  settle_checked_counted h b false true = stopped refl refl
-  settle_checked_counted h b false false = going refl
-
-  settle_narrowed_counted : (h : ℕ) (conflict : Bool) (b : List Interval) → Made h (settle_narrowed σ p h conflict b)
-  unfolding settle_narrowed
-  settle_narrowed_counted h true b = stopped refl refl
-  settle_narrowed_counted h false b = settle_checked_counted h b _ _
-
-  halve_counted : (s : State) → Made (suc s.halvings) (halve σ p s)
-  unfolding halve settle_in
-  halve_counted s = settle_narrowed_counted (suc s.halvings) _ _
-
-  begin_checked_counted : (b : List Interval) (passes : Bool) → Made 0 (begin_checked p b passes)
-  unfolding begin_checked
-  begin_checked_counted b true = stopped refl refl
-  begin_checked_counted b false = going refl
-
-  begin_narrowed_counted : (conflict : Bool) (b : List Interval) → Made 0 (begin_narrowed σ p conflict b)
-  unfolding begin_narrowed
-  begin_narrowed_counted true b = stopped refl refl
-  begin_narrowed_counted false b = begin_checked_counted b _
-
-  begin_empty_counted : (passes : Bool) → Made 0 (Stopped (begin_empty passes))
-  unfolding begin_empty
-  begin_empty_counted true = stopped refl refl
-  begin_empty_counted false = stopped refl refl
-
-  begin_at_counted : (v : ℕ) → Made 0 (begin_at σ p bounds v)
-  unfolding begin_at begin_in
-  begin_at_counted zero = begin_empty_counted _
-  begin_at_counted (suc v) = begin_narrowed_counted _ _
-
-  begin_counted : Made 0 (begin σ p bounds)
-  unfolding begin
-  begin_counted = begin_at_counted _
-
-  run_stopped : (n : ℕ) (a : Answer) → run σ p n (Stopped a) ≡ a
-  unfolding run steps finish
-  run_stopped zero a = refl
-  run_stopped (suc n) a = refl
-
   -- ---- the count of halvings, under the limit L
   pub record Counts (L : ℕ) (a : Answer) : Type 0 where
     pub at_most : halvings_of a ≤ L
@@ -69,7 +21,7 @@ module _ (σ : Settings) (p : Problem) (bounds : List Interval) where
   run_counts zero q (stopped e l) = record { at_most = omega (arith, e); limit_itself = λ r. absurd (false≢true (sym l ∙ r)) }
   run_counts zero q (going e) = record { at_most = omega (arith, e); limit_itself = λ r. omega (arith, e) }
   run_counts (suc n) q (stopped e l) = record { at_most = omega (arith, e); limit_itself = λ r. absurd (false≢true (sym l ∙ r)) }
-  run_counts (suc n) q (going {s} e) = run_counts n (omega arith) (subst (λ (x : ℕ). Made (suc x) (halve σ p s)) e (halve_counted s))
+  run_counts (suc n) q (going {s} e) = run_counts n (omega arith) (subst (λ (x : ℕ). Made (suc x) (halve σ p s)) e (halve_counted σ p s))
 
   untried_counts : (v L : ℕ) (a : Answer) → Counts L a → Counts L (untried v a)
   unfolding untried
@@ -79,8 +31,8 @@ module _ (σ : Settings) (p : Problem) (bounds : List Interval) where
 
   pub solve_counts : (L : ℕ) → Counts L (solve σ p bounds L)
   unfolding solve
-  solve_counts zero = untried_counts _ 0 _ (run_counts 0 (omega arith) begin_counted)
-  solve_counts (suc L) = run_counts (suc L) (omega arith) begin_counted
+  solve_counts zero = untried_counts _ 0 _ (run_counts 0 (omega arith) (begin_counted σ p bounds))
+  solve_counts (suc L) = run_counts (suc L) (omega arith) (begin_counted σ p bounds)
 
   -- ---- two limits
   -- Of a run that ends before its limit n, h halvings having been made: how the other limits m compare.
@@ -91,9 +43,9 @@ module _ (σ : Settings) (p : Problem) (bounds : List Interval) where
 
   ends_stopped : (h n : ℕ) (a : Answer) → halvings_of a ≡ h → Ends h n (Stopped a)
   ends_stopped h n a e = record {
-    least = rw (run_stopped n a, e) (omega arith);
-    same = λ m k. run_stopped m a ∙ sym (run_stopped n a);
-    early = λ m k. absurd (omega (arith, rw (run_stopped n a, e) at k));
+    least = rw (run_stopped σ p n a, e) (omega arith);
+    same = λ m k. run_stopped σ p m a ∙ sym (run_stopped σ p n a);
+    early = λ m k. absurd (omega (arith, rw (run_stopped σ p n a, e) at k));
   }
 
   ends_going : (n h : ℕ) (s : State) → s.halvings ≡ h → Ends (suc h) n (halve σ p s) → Ends h (suc n) (Going s)
@@ -117,7 +69,7 @@ module _ (σ : Settings) (p : Problem) (bounds : List Interval) where
   ends zero {h} (stopped {a} e l) r = ends_stopped h zero a e
   ends zero (going e) r = absurd (false≢true (sym r))
   ends (suc n) {h} (stopped {a} e l) r = ends_stopped h (suc n) a e
-  ends (suc n) {h} (going {s} e) r = ends_going n h s e (ends n (subst (λ (x : ℕ). Made (suc x) (halve σ p s)) e (halve_counted s)) r)
+  ends (suc n) {h} (going {s} e) r = ends_going n h s e (ends n (subst (λ (x : ℕ). Made (suc x) (halve σ p s)) e (halve_counted σ p s)) r)
 
   -- The answer under a limit L of at least 1, where it is not "limit" and has h halvings: under any other limit of at least h the same answer
   -- comes, and under one below h "limit" comes, with that many halvings.
@@ -134,7 +86,7 @@ module _ (σ : Settings) (p : Problem) (bounds : List Interval) where
   }
     where
       e : Ends 0 (suc L) (begin σ p bounds)
-      e = ends (suc L) begin_counted r
+      e = ends (suc L) (begin_counted σ p bounds) r
 
       same' : (M : ℕ) → 1 ≤ M → halvings_of (solve σ p bounds (suc L)) ≤ M → solve σ p bounds M ≡ solve σ p bounds (suc L)
       same' zero k q = absurd (omega arith)
