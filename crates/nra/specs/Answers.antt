@@ -45,13 +45,19 @@ abbrev pub answered : Result Solved Refusal → Result Answer ℕ
 answered (Ok s) = Ok (answer_of s)
 answered (Err r) = Err (number_of r)
 
--- where a stop word goes out as a number: document 01's order
+-- where a stop word goes out as a number: document 01's order, of "assignment" and of the others
+abbrev pub assignment_word : ℕ
+assignment_word = 0
+
+abbrev pub word_number : Stop → ℕ
+word_number Stop.Conflict = 1
+word_number Stop.Tolerance = 2
+word_number Stop.Limit = 3
+word_number Stop.Unsatisfied = 4
+
 abbrev pub stop_number : Answer → ℕ
-stop_number (assignment m exact h) = 0
-stop_number (failed Stop.Conflict r h) = 1
-stop_number (failed Stop.Tolerance r h) = 2
-stop_number (failed Stop.Limit r h) = 3
-stop_number (failed Stop.Unsatisfied r h) = 4
+stop_number (assignment m exact h) = assignment_word
+stop_number (failed w r h) = word_number w
 
 -- ---- where a run stands
 abbrev pub state_of : Held.State → State

@@ -12,13 +12,14 @@ use Rattle.narrow.specs.Given.{propagate_given}
 use Rattle.lent.specs.Lent.{propagate_lent}
 use Rattle.nra.specs.Solver.{Answer, solve}
 use Rattle.nra.specs.Calls.{solve_file, solve_given}
+use Rattle.nra.specs.Answers.{assignment_word}
 use Rattle.eml.specs.Answers.{writing, propagated}
 use Rattle.eml.specs.Places.{Solution, solved}
 use Rattle.promises.specs.Received.{Passes}
 use Rattle.promises.specs.Accepted.{file_problem, file_bounds, file_taken, given_problem, given_taken}
 use Rattle.promises.specs.Kept.{Kept, boxes_in}
 use Rattle.promises.specs.Counts.{file_counted, given_counted}
-use Rattle.promises.specs.Written.{assignment_word, limit_word, values_in, Settles, returned, unwritten, counts_left, passes_left, both_left, left_keeps}
+use Rattle.promises.specs.Written.{limit_word, values_in, Settles, returned, unwritten, counts_left, passes_left, both_left, left_keeps}
 use Rattle.promises.specs.Demand3.{file_settled, given_settled, file_passes, given_passes, given_keeps, lent_keeps}
 
 -- ---- eml_solve_file: what it returns and leaves under the limit L, in places that hold `old`

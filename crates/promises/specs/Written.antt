@@ -7,6 +7,7 @@ use Rattle.interval.specs.declared.Interval.{Interval}
 use Rattle.narrow.specs.declared.PropResult.{PropResult}
 use Rattle.nra.specs.declared.answer.Stop.{Stop}
 use Rattle.nra.specs.Solver.{Answer, assignment, failed, halvings_of, reached}
+use Rattle.nra.specs.Answers.{assignment_word, word_number}
 use Rattle.nra.specs.Fits.{point_of}
 use Rattle.eml.specs.Answers.{number_of, writing, propagated}
 use Rattle.eml.specs.Places.{Solution, solution_of, solved}
@@ -14,12 +15,9 @@ use Rattle.promises.specs.Received.{Settled, Counted}
 use Rattle.promises.specs.Kept.{Kept, Keeps}
 
 -- ---- what is promised of the places
--- document 01's numbers of the stop words "assignment" and "limit"
-abbrev pub assignment_word : ℕ
-assignment_word = 0
-
+-- document 01's number of the stop word "limit", as `assignment_word` is that of "assignment"
 abbrev pub limit_word : ℕ
-limit_word = 3
+limit_word = word_number Stop.Limit
 
 -- the values of the point in them
 abbrev pub values_in : Solution → List Float
