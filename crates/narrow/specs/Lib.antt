@@ -6,3 +6,4 @@ pub mod GivenLaws
 pub mod Held
 pub mod Computing
 pub mod Examples
+pub mod Lengths

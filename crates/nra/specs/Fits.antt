@@ -1,22 +1,28 @@
 -- A point has no more values than its problem has variables, so no more than there is room for. Assumes nothing.
 use Rattle.std.specs.Prelude.{◌≡◌, ℕ, zero, suc, ◌≤◌, Bool, true, false, List, [], length, Float, Result, Ok, Err, IfOk}
-use Rattle.std.proofs.Common.{refl, arith, leb-true}
+use Rattle.std.proofs.Common.{refl, arith, leb-true, length-set}
 use Rattle.record.specs.Refusal.{refused_or}
 use Rattle.record.specs.RefusalLaws.{none_both, none_unless}
 use Rattle.settings.specs.declared.Settings.{Settings}
 use Rattle.interval.specs.declared.Interval.{Interval}
 use Rattle.interval.specs.Boxes.{intervals}
+use Rattle.interval.specs.Choices.{either}
 use Rattle.interval.specs.BoxLaws.{starting_length, midpoints_length}
 use Rattle.constraint.specs.Constraint.{Constraint, num_vars}
 use Rattle.file.specs.File.{Read, Refused, Accepted, read_file, read_given}
+use Rattle.narrow.specs.Lengths.{propagate_length}
 use Rattle.nra.specs.Solver.{Problem, Answer, assignment, failed, State, Progress, Stopped, Going, begin_checked, begin_narrowed, begin_in, begin_empty, begin_at, begin, halved, settle_checked, settle_narrowed, settle_in, halve, steps, finish, run, untried, solve}
 use Rattle.nra.specs.Answers.{problem, tried}
 use Rattle.nra.specs.Calls.{limit_refusal, boxes_refusal, room_refusal, answered_by, solve_file, solve_given}
-use Rattle.nra.specs.Widths.{propagate_keeps, halved_keeps}
 
 abbrev pub point_of : Answer → List Float
 point_of (assignment m exact h) = m
 point_of (failed w r h) = []
+
+-- halving keeps the number of boxes
+halved_keeps : (σ : Settings) (c : Constraint) (b : List Interval) → length (halved σ c b) ≡ length b
+unfolding halved
+halved_keeps σ c b = either (λ (r : List Interval). length r ≡ length b) _ _ _ (length-set b _ _) (length-set b _ _)
 
 -- ---- a run in n boxes
 module _ (σ : Settings) (p : Problem) (n : ℕ) where
@@ -39,7 +45,7 @@ module _ (σ : Settings) (p : Problem) (n : ℕ) where
 
   begin_few : (b : List Interval) → length b ≤ n → Within (begin_in σ p b)
   unfolding begin_in
-  begin_few b l = begin_narrowed_few _ _ (omega (arith, propagate_keeps σ p.constraint b))
+  begin_few b l = begin_narrowed_few _ _ (omega (arith, propagate_length σ p.constraint b))
 
   settle_checked_few : (h : ℕ) (b : List Interval) (passes narrow : Bool) → length b ≤ n → Within (settle_checked σ p h b passes narrow)
   unfolding settle_checked
@@ -54,7 +60,7 @@ module _ (σ : Settings) (p : Problem) (n : ℕ) where
 
   halve_few : (s : State) → length s.boxes ≤ n → Within (halve σ p s)
   unfolding halve settle_in
-  halve_few s l = settle_narrowed_few _ _ _ (omega (arith, propagate_keeps σ p.constraint (halved σ p.constraint s.boxes), halved_keeps σ p.constraint s.boxes))
+  halve_few s l = settle_narrowed_few _ _ _ (omega (arith, propagate_length σ p.constraint (halved σ p.constraint s.boxes), halved_keeps σ p.constraint s.boxes))
 
   pub run_few : (limit : ℕ) (g : Progress) → Within g → Few (run σ p limit g)
   unfolding run steps finish

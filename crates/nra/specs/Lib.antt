@@ -3,7 +3,6 @@ pub mod Words
 pub mod Answers
 pub mod RunLaws
 pub mod Calls
-pub mod Widths
 pub mod Fits
 pub mod Computing
 pub mod Examples

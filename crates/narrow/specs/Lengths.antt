@@ -1,4 +1,4 @@
--- Narrowing and halving keep the number of boxes. Assumes nothing.
+-- Narrowing keeps the number of boxes. Assumes nothing.
 use Rattle.std.specs.Prelude.{◌≡◌, ℕ, zero, suc, List, [], ◌∷◌, length, Option, Some, None, Ok, Err}
 use Rattle.std.proofs.Common.{refl, ap, ◌∙◌, length-set}
 use Rattle.settings.specs.declared.Settings.{Settings}
@@ -9,7 +9,6 @@ use Rattle.constraint.specs.declared.Relation.{Relation}
 use Rattle.constraint.specs.Constraint.{Constraint, Constraints, Atom, Not, And, Or, ForAll, Exists, end, ◌⨾◌}
 use Rattle.normal.specs.NormalForm.{to_nnf}
 use Rattle.narrow.specs.Narrowing.{Narrowed, Demand, continue, ask_both, narrow_var, backward, nudge_var, nudge_tree, aim, narrow_to, narrow_atom, adopt, adopt_survivors, round, round_all, propagate_once, again, rounds, propagate}
-use Rattle.nra.specs.Solver.{halved}
 
 -- x leaves as many as b has
 abbrev Keeps : List Interval → Narrowed → Type 0
@@ -95,10 +94,6 @@ module _ (σ : Settings) where
   rounds_keep zero c b = refl
   rounds_keep (suc n) c b = either (Keeps b) _ _ _ (rounds_keep n c _ ∙ once_keeps c b) (once_keeps c b)
 
-  pub propagate_keeps : (c : Constraint) (b : List Interval) → Keeps b (propagate σ c b)
+  pub propagate_length : (c : Constraint) (b : List Interval) → Keeps b (propagate σ c b)
   unfolding propagate
-  propagate_keeps c b = rounds_keep σ.rounds c b
-
-  pub halved_keeps : (c : Constraint) (b : List Interval) → length (halved σ c b) ≡ length b
-  unfolding halved
-  halved_keeps c b = either (λ (r : List Interval). length r ≡ length b) _ _ _ (length-set b _ _) (length-set b _ _)
+  propagate_length c b = rounds_keep σ.rounds c b
