@@ -12,7 +12,7 @@ use Rattle.constraint.specs.Records.{takes, finished, formula_at}
 use Rattle.constraint.specs.Starts.{start_at}
 use Rattle.constraint.specs.StartLaws.{chain, start_below, height_below, start_before, start_of, start_none, start_next}
 use Rattle.constraint.specs.Views.{record_of}
-use Rattle.constraint.specs.RecordLaws.{taken_here, none_taken, up_to_lem, inside, atom_node, at_atom, at_not, at_and, and_taken, at_or, or_taken, at_forall, at_exists}
+use Rattle.constraint.specs.RecordLaws.{taken_here, none_taken, up_to_last, inside, atom_node, at_atom, at_not, at_and, and_taken, at_or, or_taken, at_forall, at_exists}
 use Rattle.constraint.specs.VarLaws.{named}
 use Rattle.constraint.specs.declared.Record.{Record}
 use Rattle.constraint.specs.declared.records.Records.{Records}
@@ -22,7 +22,7 @@ one_fewer b n h =
     let c : n ≡ suc (n - 1) = omega arith in
     ap (λ (i : ℕ). length (finished b i)) c ∙ ap length (chain b (n - 1)) ∙ length-append (finished b (start_at b (n - 1))) (formula_at b (n - 1) ∷ [])
 
-pub ruleset operands = (height_below, start_below, one_fewer, none_taken, up_to_lem)
+pub ruleset operands = (height_below, start_below, one_fewer, none_taken, up_to_last)
 
 module _ (r : Records) (k : ℕ) (l : k < r.count) where
   pub not_inside : record_of r k ≡ Record.Not → 0 < k

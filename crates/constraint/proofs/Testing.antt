@@ -30,15 +30,15 @@ pub greatest_is : {A : Type 0} (f : A → ℕ) (xs : List A) → fold (λ a x. m
 greatest_is f xs = greatest_from f 0 xs ∙ omega arith
 
 -- ---- what a record finishes, by the greatest of what it takes
-levels_all_lem : (cs : List (Formula ℕ)) → levels_all (gather cs) ≡ greatest (map levels cs)
+levels_gathered : (cs : List (Formula ℕ)) → levels_all (gather cs) ≡ greatest (map levels cs)
 unfolding gather greatest levels_all
-levels_all_lem [] = refl
-levels_all_lem (c ∷ cs) = ap (max (levels c)) (levels_all_lem cs)
+levels_gathered [] = refl
+levels_gathered (c ∷ cs) = ap (max (levels c)) (levels_gathered cs)
 
-quantifiers_all_lem : (cs : List (Formula ℕ)) → quantifiers_all (gather cs) ≡ greatest (map quantifiers cs)
+quantifiers_gathered : (cs : List (Formula ℕ)) → quantifiers_all (gather cs) ≡ greatest (map quantifiers cs)
 unfolding gather greatest quantifiers_all
-quantifiers_all_lem [] = refl
-quantifiers_all_lem (c ∷ cs) = ap (max (quantifiers c)) (quantifiers_all_lem cs)
+quantifiers_gathered [] = refl
+quantifiers_gathered (c ∷ cs) = ap (max (quantifiers c)) (quantifiers_gathered cs)
 
 module _ (f : Formula ℕ → ℕ) where
   none_taken : (cs : List (Formula ℕ)) → length cs ≡ 0 → greatest (map f cs) ≡ 0
@@ -56,8 +56,8 @@ levels_is : (x : Record) (cs : List (Formula ℕ)) → length cs ≡ takes x →
 unfolding levels finish
 levels_is (Record.Atom rel i) cs e = omega (arith, none_taken levels cs e)
 levels_is Record.Not cs e = omega (arith, one_taken levels cs e)
-levels_is (Record.And m) cs e = omega (arith, levels_all_lem cs)
-levels_is (Record.Or m) cs e = omega (arith, levels_all_lem cs)
+levels_is (Record.And m) cs e = omega (arith, levels_gathered cs)
+levels_is (Record.Or m) cs e = omega (arith, levels_gathered cs)
 levels_is (Record.ForAll v lo hi) cs e = omega (arith, one_taken levels cs e)
 levels_is (Record.Exists v lo hi) cs e = omega (arith, one_taken levels cs e)
 
@@ -65,8 +65,8 @@ quantifiers_is : (x : Record) (cs : List (Formula ℕ)) → length cs ≡ takes 
 unfolding quantifiers finish
 quantifiers_is (Record.Atom rel i) cs e = omega (arith, none_taken quantifiers cs e)
 quantifiers_is Record.Not cs e = omega (arith, one_taken quantifiers cs e)
-quantifiers_is (Record.And m) cs e = omega (arith, quantifiers_all_lem cs)
-quantifiers_is (Record.Or m) cs e = omega (arith, quantifiers_all_lem cs)
+quantifiers_is (Record.And m) cs e = omega (arith, quantifiers_gathered cs)
+quantifiers_is (Record.Or m) cs e = omega (arith, quantifiers_gathered cs)
 quantifiers_is (Record.ForAll v lo hi) cs e = omega (arith, one_taken quantifiers cs e)
 quantifiers_is (Record.Exists v lo hi) cs e = omega (arith, one_taken quantifiers cs e)
 

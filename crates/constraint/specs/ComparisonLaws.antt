@@ -17,7 +17,7 @@ use Rattle.tree.specs.Canonical.{sub_nodes, sub_refusal, sub_tree, sub, append}
 use Rattle.tree.specs.CanonicalLaws.{Means, sub_accepted, sub_appends, refused_at}
 use Rattle.constraint.specs.Constraint.{Atom, map_formula, levels, quantifiers}
 use Rattle.constraint.specs.Records.{record_at, is_record, finish, finished, formula_at, constraint_at, record_refusal, records_refusal}
-use Rattle.constraint.specs.Writing.{length_record, record_same, is_record_same, read_back, is_record_lem}
+use Rattle.constraint.specs.Writing.{length_record, record_same, is_record_same, read_back, is_record_written}
 use Rattle.constraint.specs.Encoding.{record_bytes}
 use Rattle.constraint.specs.Comparison.{compare_refusal, compared}
 use Rattle.constraint.specs.declared.Relation.{Relation}
@@ -37,7 +37,7 @@ module _ (rel : Relation) (i : ℕ) (out : List ℕ) (few : i < 1024) (room : 24
   record_is = record_same written (record_bytes (Record.Atom rel i)) 0 0 byte ∙ read_back 1024 (omega arith) (Record.Atom rel i) few
 
   passes : (n : ℕ) → n ≤ 1024 → i < n → is_record n written 0 ≡ true
-  passes n l h = is_record_same written (record_bytes (Record.Atom rel i)) 0 0 byte n ∙ is_record_lem n l (Record.Atom rel i) h
+  passes n l h = is_record_same written (record_bytes (Record.Atom rel i)) 0 0 byte n ∙ is_record_written n l (Record.Atom rel i) h
 
   -- alone it is a whole constraint, over a list that has its node
   alone : (nodes : List ℕ) (n : ℕ) → n ≤ 1024 → i < n → (constraint_at nodes written 0 ≡ Atom rel (tree_at nodes i)) × (records_refusal n written 1 ≡ 0)

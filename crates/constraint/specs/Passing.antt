@@ -9,7 +9,7 @@ use Rattle.constraint.specs.Constraint.{Formula, Formulas, Atom, Not, And, Or, F
 use Rattle.constraint.specs.Records.{record_at, is_ranged, takes, gather, none, finish, finished, formula_at, record_refusal, records_refusal}
 use Rattle.constraint.specs.Encoding.{record_bytes, records_bytes, records_of, records_of_all}
 use Rattle.constraint.specs.Code.{Writable}
-use Rattle.constraint.specs.Writing.{record_byte, record_same, is_record_same, read_back, is_record_lem}
+use Rattle.constraint.specs.Writing.{record_byte, record_same, is_record_same, read_back, is_record_written}
 use Rattle.constraint.specs.RecordLaws.{only_left}
 use Rattle.constraint.specs.Fitting.{Fitting, FittingAll}
 use Rattle.constraint.specs.declared.Record.{Record}
@@ -123,7 +123,7 @@ module _ (n : ℕ) (few : n ≤ 1024) (b : List ℕ) where
     passes =
         rw (
           is,
-          is_record_same b (record_bytes r) j 0 same n ∙ is_record_lem n few r p.fits_it,
+          is_record_same b (record_bytes r) j 0 same n ∙ is_record_written n few r p.fits_it,
           le-leb _ _ p.takes_there,
           p.in_range,
           le-leb _ _ p.shallow,

@@ -58,7 +58,7 @@ right n b k e =
 
 -- ---- a record that passed
 pub record Stands (n : ℕ) (b : List ℕ) (k : ℕ) : Type 0 where
-  is_record_lem : is_record n b k ≡ true
+  formed : is_record n b k ≡ true
   pub enough : takes (record_at b k) ≤ length (finished b k)
   pub ranged : is_ranged (record_at b k) ≡ true
   pub shallow : levels (formula_at b k) ≤ 16
@@ -74,14 +74,14 @@ stands n b k e =
     let x = both (is_record n b k) t (none_unless 4 (is_record n b k && t) w.0) in
     let y = none_both (6 unless is_ranged (record_at b k)) _ w.1 in
     let z = both l q (none_unless 6 (l && q) y.1) in
-    record { is_record_lem = x.0; enough = leb-true _ _ x.1; ranged = none_unless 5 (is_ranged (record_at b k)) y.0; shallow = leb-true _ _ z.0; few = leb-true _ _ z.1 }
+    record { formed = x.0; enough = leb-true _ _ x.1; ranged = none_unless 5 (is_ranged (record_at b k)) y.0; shallow = leb-true _ _ z.0; few = leb-true _ _ z.1 }
 
 -- it can be written again
 pub writable : (n : ℕ) (b : List ℕ) (k : ℕ) → k < 1024 → Stands n b k → Writable n (record_at b k)
 writable n b k h s = of (record_at b k) refl
   where
     says : (x : Record) → record_at b k ≡ x → Right n x × (takes x ≤ length (finished b k))
-    says x e = subst (λ (y : Record). Right n y × (takes y ≤ length (finished b k))) e (right n b k s.is_record_lem, s.enough)
+    says x e = subst (λ (y : Record). Right n y × (takes y ≤ length (finished b k))) e (right n b k s.formed, s.enough)
 
     of : (x : Record) → record_at b k ≡ x → Writable n x
     of (Record.Atom rel i) e = (says (Record.Atom rel i) e).0
@@ -283,13 +283,13 @@ module _ (r : Records) where
             let r = ap (λ (i : ℕ). length (finished b i)) is_start in
             record { within = omega (arith, start_falls, q.within); enough = omega (arith, q.enough) }
 
-        pub formulas_to_lem : formulas_to b m n ≡ formulas_to b (m - 1) s ++ formula_at b (n - 1) ∷ []
+        pub formulas_to_last : formulas_to b m n ≡ formulas_to b (m - 1) s ++ formula_at b (n - 1) ∷ []
         unfolding formulas_to
-        formulas_to_lem =
+        formulas_to_last =
             let a : m ≡ suc (m - 1) = omega arith in
             let c : n ≡ suc (n - 1) = omega (arith, some) in
             ap₂ (formulas_to b) a c ∙ ap (λ (i : ℕ). formulas_to b (m - 1) i ++ formula_at b (n - 1) ∷ []) (sym is_start)
 
-        pub up_to_lem : up_to nodes b m n ≡ up_to nodes b (m - 1) s ++ constraint_of r (n - 1) ∷ []
+        pub up_to_last : up_to nodes b m n ≡ up_to nodes b (m - 1) s ++ constraint_of r (n - 1) ∷ []
         unfolding up_to constraint_at
-        up_to_lem = ap (map (map_formula (tree_at nodes))) formulas_to_lem ∙ map-append (map_formula (tree_at nodes)) (formulas_to b (m - 1) s) (formula_at b (n - 1) ∷ [])
+        up_to_last = ap (map (map_formula (tree_at nodes))) formulas_to_last ∙ map-append (map_formula (tree_at nodes)) (formulas_to b (m - 1) s) (formula_at b (n - 1) ∷ [])

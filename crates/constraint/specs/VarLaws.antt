@@ -14,7 +14,7 @@ use Rattle.constraint.specs.Starts.{start_at, formulas_to, up_to}
 use Rattle.constraint.specs.Views.{record_of, constraint_of, constraints_before, Taken}
 use Rattle.constraint.specs.Code.{own_vars, Named}
 use Rattle.constraint.specs.FormulaLaws.{gather_map}
-use Rattle.constraint.specs.RecordLaws.{formula_here, writable_here, atom_node, taken_here, few_taken, none_taken, some, start_falls, before_last, last, up_to_lem}
+use Rattle.constraint.specs.RecordLaws.{formula_here, writable_here, atom_node, taken_here, few_taken, none_taken, some, start_falls, before_last, last, up_to_last}
 use Rattle.constraint.specs.declared.Record.{Record}
 use Rattle.constraint.specs.declared.records.Records.{Records}
 
@@ -91,7 +91,7 @@ module _ (r : Records) where
       let z : suc m ≡ 0 → ⊥ = λ e. omega arith in
       let s = start_at r.constraints.now (n - 1) in
       let some = some r (suc m) n q z in
-      rw (up_to_lem r (suc m) n q z s refl)
+      rw (up_to_last r (suc m) n q z s refl)
       (rw (num_vars_snoc (up_to r.nodes.now r.constraints.now (suc m - 1) s) (constraint_of r (n - 1)))
       (omega (
         arith,

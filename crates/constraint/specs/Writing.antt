@@ -125,19 +125,19 @@ module _ (n : ℕ) (few : n ≤ 1024) where
       let y = to_bits binary64 hi in
       rw (kind_is 10 v x y (omega arith), arg_is 10 v x y (omega (arith, h.0)), lo_is 10 v x y (bits_small lo h.1), hi_is 10 v x y (bits_small hi h.2), of_bits-to_bits binary64 lo h.1, of_bits-to_bits binary64 hi h.2)
 
-  pub is_record_lem : (r : Record) → Writable n r → is_record n (record_bytes r) 0 ≡ true
+  pub is_record_written : (r : Record) → Writable n r → is_record n (record_bytes r) 0 ≡ true
   unfolding is_record record_bytes when◌then◌else◌
-  is_record_lem (Record.Atom rel i) h =
+  is_record_written (Record.Atom rel i) h =
       let k = kind_of rel in
       rw (kind_is k i 0 0 (omega (arith, leb-true (suc (kind_of rel)) 6 (kind_small rel))), kind_small rel, arg_is k i 0 0 (omega arith), lo_is k i 0 0 (omega arith), hi_is k i 0 0 (omega arith), lt-ltb i n h)
-  is_record_lem Record.Not h = rw (kind_is 6 0 0 0 (omega arith), arg_is 6 0 0 0 (omega arith), lo_is 6 0 0 0 (omega arith), hi_is 6 0 0 0 (omega arith))
-  is_record_lem (Record.And m) h = rw (kind_is 7 m 0 0 (omega arith), lo_is 7 m 0 0 (omega arith), hi_is 7 m 0 0 (omega arith))
-  is_record_lem (Record.Or m) h = rw (kind_is 8 m 0 0 (omega arith), lo_is 8 m 0 0 (omega arith), hi_is 8 m 0 0 (omega arith))
-  is_record_lem (Record.ForAll v lo hi) h =
+  is_record_written Record.Not h = rw (kind_is 6 0 0 0 (omega arith), arg_is 6 0 0 0 (omega arith), lo_is 6 0 0 0 (omega arith), hi_is 6 0 0 0 (omega arith))
+  is_record_written (Record.And m) h = rw (kind_is 7 m 0 0 (omega arith), lo_is 7 m 0 0 (omega arith), hi_is 7 m 0 0 (omega arith))
+  is_record_written (Record.Or m) h = rw (kind_is 8 m 0 0 (omega arith), lo_is 8 m 0 0 (omega arith), hi_is 8 m 0 0 (omega arith))
+  is_record_written (Record.ForAll v lo hi) h =
       let x = to_bits binary64 lo in
       let y = to_bits binary64 hi in
       rw (kind_is 9 v x y (omega arith), arg_is 9 v x y (omega (arith, h.0)), lt-ltb v 16 h.0)
-  is_record_lem (Record.Exists v lo hi) h =
+  is_record_written (Record.Exists v lo hi) h =
       let x = to_bits binary64 lo in
       let y = to_bits binary64 hi in
       rw (kind_is 10 v x y (omega arith), arg_is 10 v x y (omega (arith, h.0)), lt-ltb v 16 h.0)

@@ -12,7 +12,7 @@ use Rattle.constraint.specs.Views.{record_of, Taken}
 use Rattle.constraint.specs.Encoding.{records_of, records_of_all}
 use Rattle.constraint.specs.Code.{Writable, Puts}
 use Rattle.constraint.specs.PutLaws.{puts_none, puts_is, puts_then}
-use Rattle.constraint.specs.RecordLaws.{some, start_falls, before_last, last, formula_here, writable_here, taken_here, inside, formula_not, few_taken, no_formulas, formulas_to_lem}
+use Rattle.constraint.specs.RecordLaws.{some, start_falls, before_last, last, formula_here, writable_here, taken_here, inside, formula_not, few_taken, no_formulas, formulas_to_last}
 use Rattle.normal.specs.NormalForm.{to_nnf, negate, to_nnf_all, negate_all}
 use Rattle.normal.specs.Written.{dual_of, nnf_at, negation_at, nnf_all, negation_all}
 use Rattle.normal.specs.WrittenLaws.{nnf_finish, negation_finish, nnf_snoc, negation_snoc}
@@ -102,7 +102,7 @@ module _ (r : Records) (m n : ℕ) (q : Taken r m n) where
     pub nnf_more : Ends (nnf_all r m n) (nnf_all r (m - 1) s) (nnf_at r (n - 1))
     unfolding nnf_all nnf_at
     nnf_more = record {
-      with = ap (λ (cs : List (Formula ℕ)). records_of_all (to_nnf_all (gather cs))) (formulas_to_lem r m n q h s e)
+      with = ap (λ (cs : List (Formula ℕ)). records_of_all (to_nnf_all (gather cs))) (formulas_to_last r m n q h s e)
           ∙ nnf_snoc (formulas_to r.constraints.now (m - 1) s) (formula_at r.constraints.now (n - 1));
     }
 
@@ -112,7 +112,7 @@ module _ (r : Records) (m n : ℕ) (q : Taken r m n) where
     pub negation_more : Ends (negation_all r m n) (negation_all r (m - 1) s) (negation_at r (n - 1))
     unfolding negation_all negation_at
     negation_more = record {
-      with = ap (λ (cs : List (Formula ℕ)). records_of_all (negate_all (gather cs))) (formulas_to_lem r m n q h s e)
+      with = ap (λ (cs : List (Formula ℕ)). records_of_all (negate_all (gather cs))) (formulas_to_last r m n q h s e)
           ∙ negation_snoc (formulas_to r.constraints.now (m - 1) s) (formula_at r.constraints.now (n - 1));
     }
 

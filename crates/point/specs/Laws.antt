@@ -144,8 +144,8 @@ value_number rel (Err e) n = error_number rel
 size : (x : Float) → NotNegative x → NotNegative (abs_of x)
 size x h = magnitude x (le_right (whole 0) x h)
 
-of_three_lem : (f : Float → Float → Float) → Keeps f → (x a b c : Float) → NotNegative x → NotNegative a → NotNegative b → NotNegative c → NotNegative (of_three f x a b c)
-of_three_lem f keeps x a b c g h k l = keeps _ _ (keeps _ _ (keeps _ _ g (size a h)) (size b k)) (size c l)
+of_three_keeps : (f : Float → Float → Float) → Keeps f → (x a b c : Float) → NotNegative x → NotNegative a → NotNegative b → NotNegative c → NotNegative (of_three f x a b c)
+of_three_keeps f keeps x a b c g h k l = keeps _ _ (keeps _ _ (keeps _ _ g (size a h)) (size b k)) (size c l)
 
 mutual
   unfolding residual residual_of_not
@@ -156,9 +156,9 @@ mutual
   residual_not_negative σ p (And cs) = residuals_not_negative σ p ◌⊕◌ adds (whole 0) cs zero
   residual_not_negative σ p (Or cs) = residuals_not_negative σ p min_of least +∞ cs infinity
   residual_not_negative σ p (ForAll v lo hi c) =
-      of_three_lem max_of greatest (whole 0) _ _ _ zero (residual_not_negative σ (set p v lo) c) (residual_not_negative σ (set p v (mid binary64 lo hi)) c) (residual_not_negative σ (set p v hi) c)
+      of_three_keeps max_of greatest (whole 0) _ _ _ zero (residual_not_negative σ (set p v lo) c) (residual_not_negative σ (set p v (mid binary64 lo hi)) c) (residual_not_negative σ (set p v hi) c)
   residual_not_negative σ p (Exists v lo hi c) =
-      of_three_lem min_of least +∞ _ _ _ infinity (residual_not_negative σ (set p v lo) c) (residual_not_negative σ (set p v (mid binary64 lo hi)) c) (residual_not_negative σ (set p v hi) c)
+      of_three_keeps min_of least +∞ _ _ _ infinity (residual_not_negative σ (set p v lo) c) (residual_not_negative σ (set p v (mid binary64 lo hi)) c) (residual_not_negative σ (set p v hi) c)
 
   residuals_not_negative : (σ : Settings) (p : List Float) (f : Float → Float → Float) → Keeps f → (x : Float) (cs : Constraints) → NotNegative x → NotNegative (residuals σ p f x cs)
   residuals_not_negative σ p f keeps x end h = h

@@ -50,9 +50,9 @@ module _ {A B : Type 0} (f : A → Leaving ℕ B) (old : B) (refused : ℕ → A
 reads : (r : ℕ) (c : Constraint) (bs : List Interval) (old : ℕ) → Refuses r old (placed (answered num_vars (read_by r (Accepted c bs))) old)
 reads r c bs old = refuses (λ x. placed (answered num_vars x) old) old Read.Refused (Accepted c bs) (λ n. refl) refl r
 
-pub num_vars_lem : (file : List ℕ) (old : ℕ) → Refuses (refusal file) old (placed (answered num_vars (read_file file)) old)
+pub num_vars_refuses : (file : List ℕ) (old : ℕ) → Refuses (refusal file) old (placed (answered num_vars (read_file file)) old)
 unfolding read_file
-num_vars_lem file old = reads (refusal file) _ _ old
+num_vars_refuses file old = reads (refusal file) _ _ old
 
 pub num_vars_records : (nodes b : List ℕ) (old : ℕ) → Refuses (given_refusal nodes b) old (placed (answered num_vars (read_given nodes b)) old)
 unfolding read_given
@@ -113,13 +113,13 @@ unfolding propagate_lent read_given
 intervals_refuse σ nodes constraints b old = propagate_refuses b _ _ old (given_refusal nodes constraints) _ (leb (length b) 16 && all_sound b)
 
 -- ---- eml_solve_file and eml_solve
-later_refusal_lem : {A : Type 0} (m : ℕ) (a : A) → number_of (refused_or m Err (Ok a)) ≡ m
-later_refusal_lem zero a = refl
-later_refusal_lem (suc m) a = refl
+refused_number : {A : Type 0} (m : ℕ) (a : A) → number_of (refused_or m Err (Ok a)) ≡ m
+refused_number zero a = refl
+refused_number (suc m) a = refl
 
 solver_refusal : (r : ℕ) (c : Constraint) (bs : List Interval) (later : Constraint → ℕ) (answer : Constraint → List Interval → Reached)
     → number_of (answered_by (read_by r (Accepted c bs)) later answer) ≡ (r or_else later c)
-solver_refusal zero c bs later answer = later_refusal_lem (later c) (answer c bs)
+solver_refusal zero c bs later answer = refused_number (later c) (answer c bs)
 solver_refusal (suc r) c bs later answer = refl
 
 solver_refuses : (s : Result Reached ℕ) (old : Solution) (r : ℕ) → number_of s ≡ r → Refuses r old (solved s old)
@@ -140,7 +140,7 @@ solve_refuses σ nodes b lo hi limit ε old = solver_refuses (solve_given σ nod
 
 -- ---- eml_decide_forall and eml_decide_exists
 decider_refusal : (r : ℕ) (c : Constraint) (later : ℕ) (decide : Constraint → QuantResult) → number_of (decided_by (read_by r (Accepted c [])) later decide) ≡ (r or_else later)
-decider_refusal zero c later decide = later_refusal_lem later (decide c)
+decider_refusal zero c later decide = refused_number later (decide c)
 decider_refusal (suc r) c later decide = refl
 
 decider_refuses : (d : Result QuantResult ℕ) (old : Decision) (r : ℕ) → number_of d ≡ r → Refuses r old (decided d old)

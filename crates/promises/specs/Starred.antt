@@ -68,7 +68,7 @@ pub record Starred : Type 0 where
   -- Eml(Const 0, One) is 1; Eml(Const 0, Const -1) is ComplexResult of 400921FB54442D18; Not of EqZero of the latter: solved, exact; its normal form:
   -- unsatisfied
   pub eml_one : eval_real usual [] exp0 ≡ Ok (whole 1)
-  pub eml_complex_lem : eval_real usual [] ln_negative ≡ Err (ComplexResult (bits 0x400921FB54442D18))
+  pub eml_complex_result : eval_real usual [] ln_negative ≡ Err (ComplexResult (bits 0x400921FB54442D18))
   pub not_solved : solved (Not (Atom EqZero ln_negative)) [] 10_000 ≡ assignment [] true 0
   pub normal_form : solved (to_nnf (Not (Atom EqZero ln_negative))) [] 10_000 ≡ failed Stop.Unsatisfied +∞ 0
   -- ForAll v0 in [0,1] EqZero(One), bounds [0,8], limit 1: 'limit', best 1, halvings 1, box [4,8]
@@ -89,7 +89,7 @@ starred = record {
   and_empty = refl;
   or_empty = refl;
   eml_one = refl;
-  eml_complex_lem = refl;
+  eml_complex_result = refl;
   not_solved = refl;
   normal_form = refl;
   forall_limit = refl;

@@ -30,14 +30,14 @@ pub none_unless : (r : ℕ) (t : Bool) → (suc r unless t) ≡ 0 → t ≡ true
 none_unless r true e = refl
 none_unless r false e = absurd (omega arith)
 
-pub refused_or_lem : {A : Type 0} (r : ℕ) (refused : ℕ → A) (answer : A) → (r ≡ 0 → ⊥) → refused_or r refused answer ≡ refused r
-refused_or_lem zero refused answer h = absurd (h refl)
-refused_or_lem (suc r) refused answer h = refl
+pub refused_or_refuses : {A : Type 0} (r : ℕ) (refused : ℕ → A) (answer : A) → (r ≡ 0 → ⊥) → refused_or r refused answer ≡ refused r
+refused_or_refuses zero refused answer h = absurd (h refl)
+refused_or_refuses (suc r) refused answer h = refl
 
 -- what a call yields whose test says r where its definition says s
 module _ {A : Type 0} (refused : ℕ → A) (answer : A) {r s : ℕ} (e : r ≡ s) where
   pub is_refused : (r ≡ 0 → ⊥) → refused r ≡ refused_or s refused answer
-  is_refused h = sym (refused_or_lem r refused answer h) ∙ ap (λ (n : ℕ). refused_or n refused answer) e
+  is_refused h = sym (refused_or_refuses r refused answer h) ∙ ap (λ (n : ℕ). refused_or n refused answer) e
 
   pub is_answered : r ≡ 0 → {x : A} → x ≡ answer → x ≡ refused_or s refused answer
   is_answered z f = f ∙ ap (λ (n : ℕ). refused_or n refused answer) (sym z ∙ e)
@@ -90,4 +90,4 @@ module _ (r : Refusal) {a : ℕ} (e : number_of r ≡ a) where
   refuses_first b = e ∙ or_else_refused a b (λ z. never_none r (e ∙ z))
 
   pub refuses : {A : Type 0} (answer : Result A ℕ) → Err (number_of r) ≡ refused_or a Err answer
-  refuses answer = ap Err e ∙ sym (refused_or_lem a Err answer (λ z. never_none r (e ∙ z)))
+  refuses answer = ap Err e ∙ sym (refused_or_refuses a Err answer (λ z. never_none r (e ∙ z)))

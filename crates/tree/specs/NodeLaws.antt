@@ -105,17 +105,17 @@ module _ (b : List ℕ) (n : ℕ) (v : Valid b n) where
   prefix m h = record { few = omega (arith, v.few); there = omega (arith, v.there); each = λ k l. v.each k (omega arith) }
 
   module _ (k : ℕ) (l : k < n) where
-    pub is_node_lem : is_node b k ≡ true
-    is_node_lem = (passed b k (v.each k l)).0
+    pub passed_node : is_node b k ≡ true
+    passed_node = (passed b k (v.each k l)).0
 
     pub depth_small : depth (tree_at b k) ≤ 128
     depth_small = (small_parts (tree_at b k) (passed b k (v.each k l)).1).1
 
     pub children_below : (i j : ℕ) → node_at b k ≡ Node.Eml i j → (i < k) × (j < k)
-    children_below i j e = children b k i j is_node_lem e
+    children_below i j e = children b k i j passed_node e
 
     pub index_small : (i : ℕ) → node_at b k ≡ Node.Var i → i < 16
-    index_small i e = subst (Right k) e (right b k is_node_lem)
+    index_small i e = subst (Right k) e (right b k passed_node)
 
   vars_below : (f k : ℕ) → k < f → k < n → tree_vars (tree_at b k) ≤ 16
   unfolding tree_vars
