@@ -43,11 +43,11 @@ impl Interval {
         Self::new(v, v)
     }
 
-    #[tactic(auto, using(number::specs::Order::nan_test), unfolding(crate::specs::Interval::is_empty))]
+    #[tactic(auto, unfolding(crate::specs::Interval::is_empty))]
     pub fn is_empty(self) -> bool
         ensures { result ≡ is_empty self }
     {
-        (self.hi < self.lo) | (self.lo != self.lo) | (self.hi != self.hi)
+        (self.hi < self.lo) | self.lo.is_nan() | self.hi.is_nan()
     }
 
     // Whether a call takes it as a box.
