@@ -27,27 +27,6 @@ intervals_length [] hi e = refl
 intervals_length (a ∷ lo) [] e = absurd (omega arith)
 intervals_length (a ∷ lo) (b ∷ hi) e = ap suc (intervals_length lo hi (omega arith))
 
-pub intervals_short : (lo hi : List Float) → length (intervals lo hi) ≤ length lo
-unfolding intervals
-intervals_short [] hi = omega arith
-intervals_short (a ∷ lo) [] = omega arith
-intervals_short (a ∷ lo) (b ∷ hi) = omega (arith, intervals_short lo hi)
-
-pub intervals_set : (lo hi : List Float) (j : ℕ) (a b : Float) → intervals (set lo j a) (set hi j b) ≡ set (intervals lo hi) j (a ‥ b)
-unfolding intervals
-intervals_set [] hi j a b = refl
-intervals_set (x ∷ lo) [] zero a b = refl
-intervals_set (x ∷ lo) [] (suc j) a b = refl
-intervals_set (x ∷ lo) (y ∷ hi) zero a b = refl
-intervals_set (x ∷ lo) (y ∷ hi) (suc j) a b = ap (λ (r : List Interval). (x ‥ y) ∷ r) (intervals_set lo hi j a b)
-
-pub intervals_take : (n : ℕ) (lo hi : List Float) → intervals (take n lo) (take n hi) ≡ take n (intervals lo hi)
-unfolding intervals
-intervals_take zero lo hi = refl
-intervals_take (suc n) [] hi = refl
-intervals_take (suc n) (a ∷ lo) [] = refl
-intervals_take (suc n) (a ∷ lo) (b ∷ hi) = ap (λ (r : List Interval). (a ‥ b) ∷ r) (intervals_take n lo hi)
-
 -- the ends of boxes, as boxes again
 pub of_ends : (is : List Interval) → intervals (lows is) (highs is) ≡ is
 unfolding intervals
@@ -80,13 +59,6 @@ module _ (lo hi : List Float) where
   pub boxes_all_sound : are_boxes lo hi ≡ true → all_sound (intervals lo hi) ≡ true
   unfolding are_boxes
   boxes_all_sound e = (both (are_paired lo hi) (all_sound (intervals lo hi)) e).1
-
-pub starting_more : (n : ℕ) (bounds : List Interval) → starting (suc n) bounds ≡ starting n bounds ++ get_or bounds n missing ∷ []
-unfolding starting
-starting_more zero [] = refl
-starting_more zero (b ∷ bounds) = refl
-starting_more (suc n) [] = ap (λ (r : List Interval). missing ∷ r) (starting_more n [])
-starting_more (suc n) (b ∷ bounds) = ap (λ (r : List Interval). b ∷ r) (starting_more n bounds)
 
 pub starting_length : (n : ℕ) (bounds : List Interval) → length (starting n bounds) ≡ n
 unfolding starting

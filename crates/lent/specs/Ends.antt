@@ -1,11 +1,11 @@
 -- The call on two lists of ends and the call on the list of intervals answer alike, and leave the same boxes. Assumes nothing.
-use Rattle.std.specs.Prelude.{ℕ, ◌≡◌, Bool, ◌&&◌, List, leb, Float, length}
+use Rattle.std.specs.Prelude.{ℕ, ◌≡◌, Bool, List, Float, length}
 use Rattle.std.proofs.Math.Path.{refl}
 use Rattle.std.proofs.Math.Bool.{true, false}
 use borrow.Author.Tests.{eq-eqb}
 use Rattle.settings.specs.declared.Settings.{Settings}
 use Rattle.interval.specs.declared.Interval.{Interval}
-use Rattle.interval.specs.Boxes.{lows, highs, all_sound, are_paired, are_boxes}
+use Rattle.interval.specs.Boxes.{lows, highs, are_paired, are_boxes, is_domain}
 use Rattle.interval.specs.BoxLaws.{of_ends, lows_length, highs_length}
 use Rattle.record.specs.Leaving.{◌leaving◌}
 use Rattle.file.specs.File.{Read, read_given}
@@ -18,7 +18,7 @@ abbrev pub apart : Given (List Interval) → Given (List Float × List Float)
 apart x = x.answer leaving ends x.places
 
 module _ (σ : Settings) (ys : List Interval) where
-  boxes_are : are_boxes (lows ys) (highs ys) ≡ (leb (length ys) 16 && all_sound ys)
+  boxes_are : are_boxes (lows ys) (highs ys) ≡ is_domain ys
   unfolding are_boxes are_paired
   boxes_are = rw (lows_length ys, highs_length ys, of_ends ys, eq-eqb (length ys) (length ys) refl) refl
 
@@ -30,4 +30,4 @@ module _ (σ : Settings) (ys : List Interval) where
 
   pub given_lent : (nodes constraints : List ℕ) → propagate_given σ nodes constraints (lows ys) (highs ys) ≡ apart (propagate_lent σ nodes constraints ys)
   unfolding propagate_given propagate_lent
-  given_lent nodes constraints = rw (boxes_are, of_ends ys) (tested_apart (read_given nodes constraints) (leb (length ys) 16 && all_sound ys))
+  given_lent nodes constraints = rw (boxes_are, of_ends ys) (tested_apart (read_given nodes constraints) (is_domain ys))

@@ -1,8 +1,7 @@
 -- The sums of document 01 are all of one form: a value that is replaced step by step, each step having its number. Assumes nothing.
-use Prim.Native.Nat.{ℕ, zero, suc, ◌-◌, ◌≤◌, ◌<◌}
+use Prim.Native.Nat.{ℕ, zero, suc, ◌≤◌}
 use Rattle.std.specs.Prelude.{◌≡◌, Float}
 use Rattle.std.proofs.Math.Path.{refl}
-use Rattle.std.proofs.Common.{lt_irrefl}
 use native.Mathlib.Omega.{arith}
 
 -- s after the steps n, n - 1 .. 1
@@ -12,11 +11,6 @@ series step (suc n) s = series step n (step (suc n) s)
 
 -- ---- a loop that counts n down: what is left of the series, from what the loop has, does not change
 module _ (step : ℕ → Float → Float) where
-  pub one_less : (n : ℕ) (s t : Float) → 0 < n → t ≡ step n s → series step (n - 1) t ≡ series step n s
-  unfolding series
-  one_less zero s t h e = absurd (lt_irrefl 0 h)
-  one_less (suc n) s t h e = let i : suc n - 1 ≡ n = omega arith in rw (i, e)
-
   pub none_left : (n : ℕ) (s : Float) → n ≤ 0 → s ≡ series step n s
   unfolding series
   none_left zero s h = refl

@@ -12,7 +12,7 @@ use Rattle.constraint.specs.Constraint.{Constraint, num_vars}
 use Rattle.file.specs.File.{Read, Refused, Accepted, read_file, read_given}
 use Rattle.narrow.specs.Lengths.{propagate_length}
 use Rattle.nra.specs.Solver.{Problem, Answer, assignment, failed, State, Progress, Stopped, Going, begin_checked, begin_narrowed, begin_in, begin_empty, begin_at, begin, halved, settle_checked, settle_narrowed, settle_in, halve, steps, finish, run, untried, solve}
-use Rattle.nra.specs.Answers.{problem, tried}
+use Rattle.nra.specs.Answers.{problem}
 use Rattle.nra.specs.Calls.{limit_refusal, boxes_refusal, room_refusal, answered_by, solve_file, solve_given}
 
 abbrev pub point_of : Answer → List Float
@@ -74,12 +74,6 @@ module _ (σ : Settings) (p : Problem) (n : ℕ) where
   untried_few zero a f = f
   untried_few (suc v) (assignment m exact h) f = f
   untried_few (suc v) (failed w r h) f = f
-
-  -- where a run has ended, under a limit
-  pub ended_few : (limit : ℕ) (g : Progress) → Within g → Few (tried limit (finish σ p g))
-  unfolding tried run steps
-  ended_few zero g w = untried_few 1 (finish σ p g) (run_few zero g w)
-  ended_few (suc limit) g w = run_few zero g w
 
 -- ---- the whole
 module _ (σ : Settings) (p : Problem) (bounds : List Interval) where

@@ -4,7 +4,7 @@
 -- place is as it was. (eml_read and eml_read_records return the number and write nothing; the methods of an interval and the functions refuse nothing.)
 -- For any settings σ. Assumes nothing.
 use Prim.Native.Nat.{ℕ, zero, suc}
-use Rattle.std.specs.Prelude.{◌≡◌, Bool, ◌&&◌, List, [], leb, Float, length, Result, Ok, Err}
+use Rattle.std.specs.Prelude.{◌≡◌, Bool, List, [], Float, length, Result, Ok, Err}
 use Rattle.std.proofs.Math.Path.{refl}
 use Rattle.std.proofs.Common.{sym}
 use Rattle.std.proofs.Math.Bool.{true, false}
@@ -12,7 +12,7 @@ use Rattle.settings.specs.declared.Settings.{Settings}
 use Rattle.record.specs.Leaving.{Leaving, ◌leaving◌, same_answer, same_places}
 use Rattle.record.specs.Refusal.{◌or_else◌, ◌unless◌, refused_or}
 use Rattle.interval.specs.declared.Interval.{Interval}
-use Rattle.interval.specs.Boxes.{are_paired, are_boxes, all_sound}
+use Rattle.interval.specs.Boxes.{are_paired, are_boxes, is_domain}
 use Rattle.interval.specs.Domain.{domain_refusal, domain_new, domain_is_empty}
 use Rattle.tree.specs.Canonical.{ln, sub, ln_refusal, sub_refusal}
 use Rattle.constraint.specs.declared.Relation.{Relation}
@@ -108,9 +108,9 @@ unfolding propagate_given read_given boxes_refusal
 ends_refuse σ nodes b lo hi old = propagate_refuses (lo, hi) _ _ old (given_refusal nodes b) _ (are_boxes lo hi)
 
 pub intervals_refuse : (σ : Settings) (nodes constraints : List ℕ) (b : List Interval) (old : ℕ)
-    → Refuses (given_refusal nodes constraints or_else 9 unless leb (length b) 16 && all_sound b) (old, b) (writing propagated (propagate_lent σ nodes constraints b) old)
+    → Refuses (given_refusal nodes constraints or_else 9 unless is_domain b) (old, b) (writing propagated (propagate_lent σ nodes constraints b) old)
 unfolding propagate_lent read_given
-intervals_refuse σ nodes constraints b old = propagate_refuses b _ _ old (given_refusal nodes constraints) _ (leb (length b) 16 && all_sound b)
+intervals_refuse σ nodes constraints b old = propagate_refuses b _ _ old (given_refusal nodes constraints) _ (is_domain b)
 
 -- ---- eml_solve_file and eml_solve
 refused_number : {A : Type 0} (m : ℕ) (a : A) → number_of (refused_or m Err (Ok a)) ≡ m

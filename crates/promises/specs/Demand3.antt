@@ -1,6 +1,6 @@
 -- Demand 3, sentence by sentence in its order: each of the definitions, for any settings σ, and of what the calls return. Document 01, "The words of
 -- demand 3", says what the words mean. Assumes nothing.
-use Rattle.std.specs.Prelude.{◌≡◌, refl, ℕ, ◌≤◌, ◌<◌, Bool, true, false, ◌&&◌, List, leb, Float, length, Ok}
+use Rattle.std.specs.Prelude.{◌≡◌, refl, ℕ, ◌≤◌, ◌<◌, Bool, true, false, List, leb, Float, length, Ok}
 use Rattle.std.proofs.Common.{sym, ap, ◌∙◌, subst, leb-true, leb-false}
 use Rattle.std.proofs.lemmas.Bool.{false≢true}
 use Rattle.number.specs.Order.{passed}
@@ -9,7 +9,7 @@ use Rattle.settings.specs.declared.Settings.{Settings}
 use Rattle.interval.specs.declared.Interval.{Interval}
 use Rattle.interval.specs.Inside.{Sound, Each, EachInside, boxes_sound}
 use Rattle.interval.specs.BoxLaws.{of_ends}
-use Rattle.interval.specs.Boxes.{intervals, all_sound, are_boxes}
+use Rattle.interval.specs.Boxes.{intervals, all_sound, are_boxes, is_domain}
 use Rattle.constraint.specs.Constraint.{Constraint}
 use Rattle.point.specs.Check.{check}
 use Rattle.narrow.specs.Narrowing.{propagate}
@@ -80,5 +80,5 @@ given_keeps σ nodes constraints lo hi =
 pub lent_keeps : (σ : Settings) (nodes constraints : List ℕ) (b : List Interval) → Keeps (λ x. x) b (propagate_lent σ nodes constraints b)
 unfolding propagate_lent
 lent_keeps σ nodes constraints b =
-    tested_keeps (λ x. x) nodes constraints b (λ c. answered (λ x. x) (propagate σ c b)) (leb (length b) 16 && all_sound b) (λ c h t.
+    tested_keeps (λ x. x) nodes constraints b (λ c. answered (λ x. x) (propagate σ c b)) (is_domain b) (λ c h t.
     propagate_keeps σ c b h (boxes_sound b (passed (both (leb (length b) 16) (all_sound b) t).1)))
