@@ -1,8 +1,8 @@
 -- How many digits there are, and that they are what the library writes of a u64 by `{:016X}`. Assumes nothing.
-use Rattle.std.specs.Prelude.{ℕ, zero, suc, ◌+◌, ◌-◌, ◌/◌, ◌%◌, ◌^◌, ◌<◌, ◌≤◌, ◌≡◌, refl, Bool, true, false, List, [], ◌∷◌, ◌++◌, length, replicate, drop, set, ltb, cond, nat_eq}
+use Rattle.std.specs.Prelude.{ℕ, zero, suc, ◌+◌, ◌-◌, ◌/◌, ◌%◌, ◌^◌, ◌<◌, ◌≤◌, ◌≡◌, refl, Bool, true, false, List, [], ◌∷◌, ◌++◌, length, replicate, ltb, cond, nat_eq}
 use Rattle.std.specs.Fmt.{digit_glyph, digits_onto, padded_integral, format_spec, char_count}
 use Rattle.std.specs.Fmt as Fmt
-use Rattle.std.proofs.Common.{sym, ◌∙◌, arith, add-one, append-nil, length-append, length-set, drop-cons, drop-set-lt, get_or-set_same}
+use Rattle.std.proofs.Common.{◌∙◌, arith, add-one, append-nil}
 use Rattle.std.proofs.lemmas.Bool.{eqb-true, eq-eqb, cond_both}
 use Rattle.std.proofs.lemmas.List.{replicate-append-replicate}
 use Rattle.std.proofs.Math.Nat.{pow-suc}
