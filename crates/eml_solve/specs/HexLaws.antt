@@ -1,4 +1,4 @@
--- How many digits there are, and that they are what the library writes of a u64 by `{:016X}`. Assumes nothing.
+-- The digits are what the library writes of a u64 by `{:016X}`. Assumes nothing.
 use Rattle.std.specs.Prelude.{ℕ, zero, suc, ◌+◌, ◌-◌, ◌/◌, ◌%◌, ◌^◌, ◌<◌, ◌≤◌, ◌≡◌, refl, Bool, true, false, List, [], ◌∷◌, ◌++◌, length, replicate, ltb, cond, nat_eq}
 use Rattle.std.specs.Fmt.{digit_glyph, digits_onto, padded_integral, format_spec, char_count}
 use Rattle.std.specs.Fmt as Fmt
