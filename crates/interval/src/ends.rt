@@ -14,32 +14,41 @@ use super::count::Count;
 use super::domain::{Domain, MISSING, all_sound};
 use record::Refusal;
 
+// How many boxes the ends make: as many as there are of each kind, at most 16; else 9.
+#[tactic(auto, unfolding(crate::specs::Boxes::are_paired))]
+fn count_ends(lo: &[f64], hi: &[f64]) -> Result<Count, Refusal>
+    ensures refusal { refusal_of result ≡ (9 unless are_paired lo.now hi.now) }
+    ensures value { IfOk result (λ c. (c.n ≡ length lo.now) × (length hi.now ≡ length lo.now)) }
+{
+    if lo.len() != hi.len() {
+        return Err(Refusal::Boxes);
+    }
+    Count::try_from(lo.len())
+}
+
 impl Domain {
-    // The boxes of as many ends of each kind, at most 16; else 9.
-    #[tactic(auto, using(crate::proofs::Loops::placed), unfolding(crate::specs::Boxes::are_paired))]
-    pub fn of_ends(lo: &[f64], hi: &[f64]) -> Result<Domain, Refusal>
-        ensures refusal { refusal_of result ≡ (9 unless are_paired lo.now hi.now) }
-        ensures value { IfOk result (λ d. (d.count.n ≡ length lo.now) × (intervals_of d ≡ intervals lo.now hi.now)) }
+    // The boxes of as many ends of each kind.
+    #[tactic(auto, using(crate::proofs::Loops::placed))]
+    fn of_ends(lo: &[f64], hi: &[f64], count: Count) -> Domain
+        requires { (count.n ≡ length lo.now) × (length hi.now ≡ length lo.now) }
+        ensures { (result.count.n ≡ length lo.now) × (intervals_of result ≡ intervals lo.now hi.now) }
     {
-        if lo.len() != hi.len() {
-            return Err(Refusal::Boxes);
-        }
-        let count = Count::try_from(lo.len())?;
         let mut boxes = [MISSING; 16];
         for i in 0..lo.len() {
             boxes[i] = Interval::new(lo[i], hi[i]);
         }
-        Ok(Domain { boxes, count })
+        Domain { boxes, count }
     }
 
-    // And each of them sound.
+    // The boxes of such ends, each of them sound; else 9.
     #[tactic(auto, using(record::specs::RefusalLaws::never_none), unfolding(crate::specs::Boxes::are_boxes))]
     #[inline(always)]
     pub fn of_sound_ends(lo: &[f64], hi: &[f64]) -> Result<Domain, Refusal>
         ensures refusal { refusal_of result ≡ (9 unless are_boxes lo.now hi.now) }
         ensures value { IfOk result (λ d. (d.count.n ≡ length lo.now) × (intervals_of d ≡ intervals lo.now hi.now)) }
     {
-        let domain = Domain::of_ends(lo, hi)?;
+        let count = count_ends(lo, hi)?;
+        let domain = Domain::of_ends(lo, hi, count);
         if !all_sound(domain.as_slice()) {
             return Err(Refusal::Boxes);
         }
@@ -87,6 +96,6 @@ pub fn domain_new(
 pub fn domain_is_empty(lo: &[f64], hi: &[f64]) -> Result<bool, Refusal>
     ensures { numbered result ≡ domain_is_empty lo.now hi.now }
 {
-    let domain = Domain::of_ends(lo, hi)?;
-    Ok(domain.is_empty())
+    let count = count_ends(lo, hi)?;
+    Ok(Domain::of_ends(lo, hi, count).is_empty())
 }
