@@ -213,6 +213,11 @@ fn abs_and_neighbours() {
     );
     for c in [&mut abs, &mut up, &mut down, &mut up2, &mut down2] {
         edges(c);
+        // Each pattern about the cases that the clause names, of both signs: zero and the least numbers; the largest, the
+        // infinity and the first NaNs; the quiet NaN; the last NaNs.
+        for bits in [0, f64::INFINITY.to_bits(), f64::NAN.to_bits(), !0 >> 1] {
+            c.around(f64::from_bits(bits), 100_000);
+        }
         let mut rng = SplitMix64::new(106);
         for _ in 0..1_500_000 {
             c.at([rng.argument()]);
@@ -220,6 +225,26 @@ fn abs_and_neighbours() {
     }
     for c in [abs, up, down, up2, down2] {
         c.done(1_000_000);
+    }
+}
+
+/// Clause 5.3.1 by the cases that it names, in its order; and nextDown(x) is -nextUp(-x).
+#[test]
+fn neighbours_by_the_clause() {
+    let least = f64::from_bits(1);
+    let named = [
+        (-least, -0.0),
+        (0.0, least),
+        (-0.0, least),
+        (f64::INFINITY, f64::INFINITY),
+        (f64::NEG_INFINITY, f64::MIN),
+    ];
+    for (x, next) in named {
+        assert_eq!(number::next_up(x).to_bits(), next.to_bits(), "{x}");
+        assert_eq!(number::next_down(-x).to_bits(), (-next).to_bits(), "{x}");
+    }
+    for nan in [f64::NAN, -f64::NAN] {
+        assert!(number::next_up(nan).is_nan() && number::next_down(nan).is_nan());
     }
 }
 

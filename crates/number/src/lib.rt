@@ -46,19 +46,47 @@ pub fn sign_bit(x: f64) -> bool
     !x.is_nan() && x.is_sign_negative()
 }
 
-// IEEE 754, clause 5.3.1.
-#[tactic(auto, using(crate::proofs::Neighbours::neighbours))]
+// IEEE 754-2019, clause 5.3.1: nextUp(x) is the least number of the format that compares greater than x. The cases that the clause
+// names come in its order and words, and its rule is what remains: away from zero the patterns count up.
+#[tactic(auto, using(std::proofs::lemmas::Float::not_nan_f64_bits, crate::proofs::Neighbours::cases))]
 pub fn next_up(x: f64) -> f64
     ensures { result ≡ next_up binary64 x }
 {
-    x.next_up()
+    // for the negative number of least magnitude, -0
+    if x == -f64::from_bits(1) {
+        return -0.0;
+    }
+    // for either zero, the positive number of least magnitude
+    if x == 0.0 {
+        return f64::from_bits(1);
+    }
+    // for +inf, +inf
+    if x == f64::INFINITY {
+        return x;
+    }
+    // for -inf, the finite negative number of largest magnitude
+    if x == f64::NEG_INFINITY {
+        return f64::MIN;
+    }
+    // for a NaN, a NaN
+    if x.is_nan() {
+        return x;
+    }
+    // the least number of the format that compares greater than x
+    let b = x.to_bits();
+    if x < 0.0 {
+        f64::from_bits(b - 1)
+    } else {
+        f64::from_bits(b + 1)
+    }
 }
 
-#[tactic(auto, using(crate::proofs::Neighbours::neighbours), unfolding(crate::specs::Next::next_down))]
+// nextDown(x) is -nextUp(-x)
+#[tactic(auto, using(crate::specs::Order::passed), unfolding(crate::specs::Next::next_down))]
 pub fn next_down(x: f64) -> f64
     ensures { result ≡ next_down binary64 x }
 {
-    x.next_down()
+    -next_up(-x)
 }
 
 // The f64 of a bit pattern, a NaN's included.
