@@ -78,6 +78,13 @@ fn quoted(cell: &str) -> impl Iterator<Item = &str> {
     cell.split('`').skip(1).step_by(2)
 }
 
+/// The rows of the map's tables, without their heads.
+fn rows(map: &str) -> impl Iterator<Item = Vec<&str>> {
+    map.lines()
+        .filter(|line| line.starts_with("| ") && !line.starts_with("| document "))
+        .map(|line| line.split('|').collect())
+}
+
 #[test]
 fn the_map() {
     let map = text("docs/MAP.md");
@@ -86,8 +93,7 @@ fn the_map() {
         assert!(map.contains(&format!("`{name}`")), "{name} is not there");
     }
     let mut count = 0;
-    for row in map.lines().filter(|line| line.starts_with("| ")).skip(1) {
-        let cells: Vec<&str> = row.split('|').collect();
+    for cells in rows(&map) {
         let name = quoted(cells[2]).next().expect("a crate");
         for definitions in quoted(cells[3]) {
             let file = definitions.trim_start_matches("specs/");
@@ -117,8 +123,7 @@ fn crates() -> Vec<String> {
 fn functions_of_the_map() {
     let mut functions = 0;
     let map = text("docs/MAP.md");
-    for row in map.lines().filter(|line| line.starts_with("| ")).skip(1) {
-        let cells: Vec<&str> = row.split('|').collect();
+    for cells in rows(&map) {
         let name = quoted(cells[2]).next().expect("a crate");
         // A file, then functions of it.
         let mut code = String::new();
@@ -129,7 +134,7 @@ fn functions_of_the_map() {
             } else {
                 let function = word.trim_start_matches("Canonical::");
                 let there = ["(", "<"].map(|next| code.contains(&format!("fn {function}{next}")));
-                assert!(there.contains(&true), "{row}: {word}");
+                assert!(there.contains(&true), "{}: {word}", cells[1]);
                 functions += 1;
             }
         }
