@@ -249,6 +249,8 @@ static void numbers(void) {
         HOLDS(near(first, TO_TWO[i].first) && near(second, TO_TWO[i].second));
     }
     HOLDS(eml_next_up(1.0) == 1.0 + DBL_EPSILON && eml_next_down(1.0) == 1.0 - DBL_EPSILON / 2.0);
+    HOLDS(eml_next_up(-0.0) == DBL_TRUE_MIN && eml_next_down(0.0) == -DBL_TRUE_MIN);
+    HOLDS(eml_bits_of(eml_next_up(-DBL_TRUE_MIN)) == eml_bits_of(-0.0) && eml_bits_of(eml_next_down(DBL_TRUE_MIN)) == eml_bits_of(0.0));
     HOLDS(eml_sign_bit(-0.0) && !eml_sign_bit(0.0));
     HOLDS(eml_of_bits(0x4008000000000000) == 3.0 && eml_bits_of(3.0) == 0x4008000000000000);
 }

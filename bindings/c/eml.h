@@ -523,10 +523,10 @@ double eml_abs(double x);
 /* Whether the sign bit is set; false for a NaN. */
 bool eml_sign_bit(double x);
 
-/* The least double above x (IEEE 754, clause 5.3.1). */
+/* The least double above x (IEEE 754-2019, clause 5.3.1). Of the negative number of least magnitude it is -0; +inf and a NaN stay. */
 double eml_next_up(double x);
 
-/* The greatest double below x (IEEE 754, clause 5.3.1). */
+/* The greatest double below x (IEEE 754-2019, clause 5.3.1), which is -eml_next_up(-x). */
 double eml_next_down(double x);
 
 #ifdef __cplusplus

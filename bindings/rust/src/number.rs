@@ -40,14 +40,26 @@ pub fn sign_bit(x: f64) -> bool {
     raw::eml_sign_bit(x)
 }
 
-/// The least f64 above `x` (IEEE 754, clause 5.3.1).
+/// The least f64 above `x` (IEEE 754-2019, clause 5.3.1). Of the negative number of least magnitude it is -0; +inf and a NaN stay.
+///
+/// ```
+/// use eml::number::next_up;
+///
+/// let least = f64::from_bits(1);
+/// assert_eq!(next_up(-least).to_bits(), (-0.0_f64).to_bits());
+/// assert_eq!([next_up(-0.0), next_up(0.0)], [least, least]);
+/// assert_eq!(next_up(f64::INFINITY), f64::INFINITY);
+/// assert_eq!(next_up(f64::NEG_INFINITY), f64::MIN);
+/// assert!(next_up(f64::NAN).is_nan());
+/// ```
 #[inline]
 #[must_use]
 pub fn next_up(x: f64) -> f64 {
     raw::eml_next_up(x)
 }
 
-/// The greatest f64 below `x` (IEEE 754, clause 5.3.1).
+/// The greatest f64 below `x` (IEEE 754-2019, clause 5.3.1), which is `-next_up(-x)`: of the positive number of least magnitude it
+/// is +0; -inf and a NaN stay.
 #[inline]
 #[must_use]
 pub fn next_down(x: f64) -> f64 {

@@ -11,7 +11,8 @@ use Rattle.number.specs.Pattern.{signless, eq_same}
 use Rattle.number.specs.Next.{next_up, no_nan, no_nan_bits, no_nan_below, no_sign, back, below_inf, is_inf, next_up_nan, next_up_at_zero, next_up_positive, next_up_negative, negative_bits}
 use Rattle.number.specs.Computing.{computing}
 
--- ---- the cases that the clause names: what equals a number other than zero is that number
+-- ---- the cases that the clause names
+-- what equals a number other than zero is that number
 is : (x y : Float) → T (fits binary64 x) → T (fits binary64 y) → T (not (eq y naught)) → eq x y ≡ true → x ≡ y
 is x y h k n e = ⊎_elim (λ p. p) (λ z. absurd (T_not (eq y naught) n z.1)) (eq_same binary64 x y h k (passed e))
 
