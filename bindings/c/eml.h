@@ -511,10 +511,10 @@ void eml_complex_ln(double re, double im, double *real, double *imag);
 
 /* ---- the operations on a double */
 
-/* The larger; a NaN yields the other operand, equal operands the first. */
+/* The larger, maximumNumber of IEEE 754-2019, clause 9.6: -0 is below +0, and a NaN yields the other operand. */
 double eml_max(double a, double b);
 
-/* The smaller; a NaN yields the other operand, equal operands the first. */
+/* The smaller, minimumNumber of the same clause: -0 is below +0, and a NaN yields the other operand. */
 double eml_min(double a, double b);
 
 /* The magnitude. */

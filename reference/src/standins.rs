@@ -188,16 +188,29 @@ pub fn atan(t: f64) -> f64 {
     base + u * s
 }
 
-/// The larger: a NaN yields the other operand, equal operands yield the first.
+/// IEEE 754-2019 clause 9.6, maximumNumber: x if x > y, y if y > x, and the number if one operand is a NaN; here -0 compares less
+/// than +0. Equal operands with the same sign are the same.
 #[inline]
-pub fn max(a: f64, b: f64) -> f64 {
-    if a.is_nan() || a < b { b } else { a }
+pub fn max(x: f64, y: f64) -> f64 {
+    if x > y || y.is_nan() {
+        x
+    } else if y > x || x.is_nan() || x.is_sign_negative() {
+        y
+    } else {
+        x
+    }
 }
 
-/// The smaller: a NaN yields the other operand, equal operands yield the first.
+/// The same clause, minimumNumber: x if x < y, y if y < x.
 #[inline]
-pub fn min(a: f64, b: f64) -> f64 {
-    if a.is_nan() || b < a { b } else { a }
+pub fn min(x: f64, y: f64) -> f64 {
+    if x < y || y.is_nan() {
+        x
+    } else if y < x || x.is_nan() || y.is_sign_negative() {
+        y
+    } else {
+        x
+    }
 }
 
 /// IEEE 754 clause 5.3.1: the least number of the format that compares greater than x.
@@ -376,20 +389,49 @@ mod tests {
     }
 
     #[test]
-    fn max_and_min_on_nan_and_equal_operands() {
-        assert_eq!(max(0.0, -0.0).to_bits(), 0);
-        assert_eq!(max(-0.0, 0.0).to_bits(), (-0.0_f64).to_bits());
-        assert_eq!(min(0.0, -0.0).to_bits(), 0);
-        assert_eq!(min(-0.0, 0.0).to_bits(), (-0.0_f64).to_bits());
+    fn max_and_min_by_the_clause() {
+        for (a, b, greater, lesser) in [
+            (-0.0, -0.0, -0.0, -0.0),
+            (-0.0, 0.0, 0.0, -0.0),
+            (0.0, -0.0, 0.0, -0.0),
+            (0.0, 0.0, 0.0, 0.0),
+            (1.0, 2.0, 2.0, 1.0),
+            (2.0, 1.0, 2.0, 1.0),
+            (-0.0, bits(1), bits(1), -0.0),
+        ] {
+            assert_eq!(max(a, b).to_bits(), f64::to_bits(greater), "{a} {b}");
+            assert_eq!(min(a, b).to_bits(), f64::to_bits(lesser), "{a} {b}");
+        }
         for op in [max, min] {
-            assert_eq!(op(f64::NAN, 2.0), 2.0);
-            assert_eq!(op(2.0, f64::NAN), 2.0);
+            for x in [2.0, 0.0, -0.0, f64::INFINITY, f64::NEG_INFINITY] {
+                assert_eq!(op(f64::NAN, x).to_bits(), x.to_bits());
+                assert_eq!(op(x, f64::NAN).to_bits(), x.to_bits());
+            }
             assert!(op(f64::NAN, f64::NAN).is_nan());
         }
-        assert_eq!(max(1.0, 2.0), 2.0);
-        assert_eq!(min(1.0, 2.0), 1.0);
-        assert_eq!(max(2.0, 1.0), 2.0);
-        assert_eq!(min(2.0, 1.0), 1.0);
+    }
+
+    /// The order of the patterns, `total_cmp`, is the clause's where there is no NaN.
+    #[test]
+    fn max_and_min_by_a_second_reading() {
+        let mut rng = SplitMix64::new(3);
+        for _ in 0..1_000_000 {
+            let a = rng.argument();
+            let b = match rng.below(3) {
+                0 => -a,
+                1 => rng.near(a, 2),
+                _ => rng.argument(),
+            };
+            if !a.is_nan() && !b.is_nan() {
+                let [lesser, greater] = if a.total_cmp(&b).is_lt() {
+                    [a, b]
+                } else {
+                    [b, a]
+                };
+                assert_eq!(max(a, b).to_bits(), greater.to_bits(), "{a} {b}");
+                assert_eq!(min(a, b).to_bits(), lesser.to_bits(), "{a} {b}");
+            }
+        }
     }
 
     /// Rust's `round` has the same ties; only its zero may be negative.

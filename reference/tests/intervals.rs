@@ -39,6 +39,49 @@ fn at_two<const M: usize>(mut c: Comparison<2, M>, seed: u64) {
     c.done(ENOUGH);
 }
 
+/// What zeros can meet: both of them, the numbers beside them, others, and no number.
+const AROUND_ZERO: [f64; 9] = [
+    0.0,
+    -0.0,
+    f64::from_bits(1),
+    -f64::from_bits(1),
+    1.0,
+    -1.0,
+    f64::INFINITY,
+    f64::NEG_INFINITY,
+    f64::NAN,
+];
+
+/// Four ends of which most are a zero: each four of the above, and as many random ones as elsewhere. Of the latter, in at least a
+/// fifth each two zeros with different signs meet at lo, and at hi.
+fn at_zeros(mut c: Comparison<4, 2>, seed: u64) {
+    for a in AROUND_ZERO {
+        for b in AROUND_ZERO {
+            for x in AROUND_ZERO {
+                for y in AROUND_ZERO {
+                    c.at([a, b, x, y]);
+                }
+            }
+        }
+    }
+    let mut rng = SplitMix64::new(seed);
+    let mut met = [0_u64; 2];
+    for _ in 0..ENOUGH {
+        let mut end = || match rng.below(6) {
+            0 => rng.argument(),
+            1 => rng.pick(&AROUND_ZERO),
+            _ => rng.pick(&[0.0, -0.0]),
+        };
+        let [a, b, x, y] = [end(), end(), end(), end()];
+        for (count, (p, q)) in met.iter_mut().zip([(a, x), (b, y)]) {
+            *count += u64::from(p == q && p.is_sign_negative() != q.is_sign_negative());
+        }
+        c.at([a, b, x, y]);
+    }
+    assert!(met.iter().all(|&n| n >= ENOUGH / 5));
+    c.done(ENOUGH);
+}
+
 /// Two intervals, which touch, overlap, lie apart or are reversed.
 fn at_four<const M: usize>(mut c: Comparison<4, M>, seed: u64) {
     let mut rng = SplitMix64::new(seed);
@@ -174,5 +217,26 @@ fn methods_of_two() {
             |[a, b, x, _]| [number(eml::Interval::new(a, b).contains(x))],
         ),
         59,
+    );
+}
+
+/// Where the two sides must choose the same zero.
+#[test]
+fn ends_of_both_zeros() {
+    at_zeros(
+        Comparison::new(
+            "Interval::intersect at zeros",
+            |[a, b, x, y]| ends(Interval::new(a, b).intersect(&Interval::new(x, y))),
+            |[a, b, x, y]| our_ends(eml::Interval::new(a, b).intersect(eml::Interval::new(x, y))),
+        ),
+        64,
+    );
+    at_zeros(
+        Comparison::new(
+            "Interval::hull at zeros",
+            |[a, b, x, y]| ends(Interval::new(a, b).hull(&Interval::new(x, y))),
+            |[a, b, x, y]| our_ends(eml::Interval::new(a, b).hull(eml::Interval::new(x, y))),
+        ),
+        65,
     );
 }

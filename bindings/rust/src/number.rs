@@ -5,21 +5,30 @@
 //! use eml::number;
 //!
 //! assert_eq!(number::max(f64::NAN, 1.0), 1.0);
-//! assert!(number::max(-0.0, 0.0).is_sign_negative()); // the first of equals
+//! assert!(number::max(-0.0, 0.0).is_sign_positive());
 //! assert_eq!(number::bits_of(-f64::NAN), 0x7FF8_0000_0000_0000);
 //! assert_eq!(number::next_up(1.0), 1.0 + f64::EPSILON);
 //! ```
 
 use crate::raw;
 
-/// The larger; a NaN yields the other operand, equal operands the first.
+/// The larger, maximumNumber of IEEE 754-2019, clause 9.6: -0 is below +0, and a NaN yields the other operand.
+///
+/// ```
+/// use eml::number::{max, min};
+///
+/// for (a, b) in [(-0.0, 0.0), (0.0, -0.0)] {
+///     assert_eq!(max(a, b).to_bits(), 0.0_f64.to_bits());
+///     assert_eq!(min(a, b).to_bits(), (-0.0_f64).to_bits());
+/// }
+/// ```
 #[inline]
 #[must_use]
 pub fn max(a: f64, b: f64) -> f64 {
     raw::eml_max(a, b)
 }
 
-/// The smaller; a NaN yields the other operand, equal operands the first.
+/// The smaller, minimumNumber of the same clause: -0 is below +0, and a NaN yields the other operand.
 #[inline]
 #[must_use]
 pub fn min(a: f64, b: f64) -> f64 {

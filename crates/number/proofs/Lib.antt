@@ -1,3 +1,4 @@
 pub mod Neighbours
 pub mod Signs
 pub mod Whole
+pub mod Zeros

@@ -13,18 +13,31 @@ abbrev +0 : Float
 abbrev -0 : Float
 -0 = fin true 0 (pos 0)
 
--- a NaN yields the other operand, equal operands yield the first
+-- a NaN yields the other operand, a zero too
 max_nan : max_of nan (whole 2) ≡ whole 2
 unfolding computing
 max_nan = refl
 
-max_zeros : max_of -0 +0 ≡ -0
+max_nan_zero : (max_of nan -0 ≡ -0) × (max_of +0 nan ≡ +0)
 unfolding computing
-max_zeros = refl
+max_nan_zero = (refl, refl)
 
-min_zeros : min_of +0 -0 ≡ +0
+min_nan_zero : (min_of nan +0 ≡ +0) × (min_of -0 nan ≡ -0)
 unfolding computing
-min_zeros = refl
+min_nan_zero = (refl, refl)
+
+no_number : (max_of nan nan ≡ nan) × (min_of nan nan ≡ nan)
+unfolding computing
+no_number = (refl, refl)
+
+-- -0 is below +0
+max_zeros : (max_of -0 -0 ≡ -0) × (max_of -0 +0 ≡ +0) × (max_of +0 -0 ≡ +0) × (max_of +0 +0 ≡ +0)
+unfolding computing
+max_zeros = (refl, refl, refl, refl)
+
+min_zeros : (min_of -0 -0 ≡ -0) × (min_of -0 +0 ≡ -0) × (min_of +0 -0 ≡ -0) × (min_of +0 +0 ≡ +0)
+unfolding computing
+min_zeros = (refl, refl, refl, refl)
 
 -- ties away from zero
 nearest_tie : nearest (fin true 5 (negsuc 0)) ≡ negsuc 2

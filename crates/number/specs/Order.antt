@@ -26,7 +26,7 @@ pub failed : {b : Bool} → b ≡ false → T (not b)
 failed e = subst (λ (b : Bool). T (not b)) (sym e) tt
 
 -- two that pass together are equal
-same_test : (a b : Bool) → (T a → T b) → (T b → T a) → a ≡ b
+pub same_test : (a b : Bool) → (T a → T b) → (T b → T a) → a ≡ b
 same_test true true f g = refl
 same_test true false f g = absurd (f tt)
 same_test false true f g = absurd (g tt)

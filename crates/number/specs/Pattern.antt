@@ -10,6 +10,7 @@ use Rattle.std.specs.Float.Ieee.Digits.{size-lt, size-le, size_reaches}
 use Rattle.std.specs.Float.Ieee.Fits.{kept-lt, two, two-le_pos, down_pos, neg-fits}
 use Rattle.std.specs.Float.Ieee.Nearest.{div_mono}
 use Rattle.std.specs.Float.Ieee.Bits.{of_bits-to_bits}
+use Rattle.number.specs.Sign.{sign_bit}
 use Rattle.number.specs.Signed.{both_zero, le→⊑, ⊑→le}
 use Rattle.number.specs.Order.{naught, le_antisym, eq→le, eq_sym, neg_le}
 use Rattle.number.specs.Round.{fits_parts}
@@ -108,8 +109,31 @@ pub zero_is : (s : Bool) (m : ℕ) (e : ℤ) → m * up e ≡ 0 → T (eq (fin s
 zero_is true m e z = le_antisym (fin true m e) naught (⊑→le (fin true m e) naught tt tt (omega arith)) (⊑→le naught (fin true m e) tt tt (omega arith))
 zero_is false m e z = le_antisym (fin false m e) naught (⊑→le (fin false m e) naught tt tt (omega arith)) (⊑→le naught (fin false m e) tt tt (omega arith))
 
+-- with the same sign they are, zeros too
+pub eq_signed : (f : Format) (x y : Float) → T (fits f x) → T (fits f y) → T (eq x y) → sign_bit x ≡ sign_bit y → x ≡ y
+unfolding eq neg sign_bit
+eq_signed f nan y h k e s = absurd e
+eq_signed f (inf s) nan h k e t = absurd e
+eq_signed f (inf true) (inf true) h k e t = refl
+eq_signed f (inf true) (inf false) h k e t = absurd e
+eq_signed f (inf false) (inf true) h k e t = absurd e
+eq_signed f (inf false) (inf false) h k e t = refl
+eq_signed f (inf s) (fin t n d) h k e u = absurd e
+eq_signed f (fin s m e) nan h k i u = absurd i
+eq_signed f (fin s m e) (inf t) h k i u = absurd i
+eq_signed f (fin false m e) (fin true n d) h k i u = cc
+eq_signed f (fin true m e) (fin false n d) h k i u = cc
+eq_signed f (fin false m e) (fin false n d) h k i u =
+    let x = fin false m e in
+    let y = fin false n d in
+    same_signless f x y h k tt tt (eq→le x y i) (eq→le y x (eq_sym x y i))
+eq_signed f (fin true m e) (fin true n d) h k i u =
+    let x = fin true m e in
+    let y = fin true n d in
+    ap neg (same_signless f (fin false m e) (fin false n d) (neg-fits f x h) (neg-fits f y k) tt tt (neg_le y x (eq→le y x (eq_sym x y i))) (neg_le x y (eq→le x y i)))
+
 pub eq_same : (f : Format) (x y : Float) → T (fits f x) → T (fits f y) → T (eq x y) → (x ≡ y) ⊎ (T (eq x naught) × T (eq y naught))
-unfolding eq neg
+unfolding eq sign_bit
 eq_same f nan y h k e = absurd e
 eq_same f (inf s) nan h k e = absurd e
 eq_same f (inf true) (inf true) h k e = inl refl
@@ -119,14 +143,8 @@ eq_same f (inf false) (inf false) h k e = inl refl
 eq_same f (inf s) (fin t n d) h k e = absurd e
 eq_same f (fin s m e) nan h k i = absurd i
 eq_same f (fin s m e) (inf t) h k i = absurd i
-eq_same f (fin false m e) (fin false n d) h k i =
-    let x = fin false m e in
-    let y = fin false n d in
-    inl (same_signless f x y h k tt tt (eq→le x y i) (eq→le y x (eq_sym x y i)))
-eq_same f (fin true m e) (fin true n d) h k i =
-    let x = fin true m e in
-    let y = fin true n d in
-    inl (ap neg (same_signless f (fin false m e) (fin false n d) (neg-fits f x h) (neg-fits f y k) tt tt (neg_le y x (eq→le y x (eq_sym x y i))) (neg_le x y (eq→le x y i))))
+eq_same f (fin false m e) (fin false n d) h k i = inl (eq_signed f (fin false m e) (fin false n d) h k i refl)
+eq_same f (fin true m e) (fin true n d) h k i = inl (eq_signed f (fin true m e) (fin true n d) h k i refl)
 eq_same f (fin false m e) (fin true n d) h k i =
     let z = both_zero (m * up e * down d) (n * up d * down e) i in
     inr (zero_is false m e (zero_size m (up e) (down d) (down_pos d) z.0), zero_is true n d (zero_size n (up d) (down e) (down_pos e) z.1))

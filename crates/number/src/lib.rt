@@ -4,32 +4,42 @@
 
 ghost use Rattle.std.specs.Prelude.{◌≡◌, ◌^◌, T, from_bits, to_bits};
 ghost use Rattle.std.specs.Float.{binary64};
+ghost use Rattle.number.specs.Notation.{when◌then◌else◌};
 ghost use Rattle.number.specs.Sign.{abs_of, sign_bit};
 ghost use Rattle.number.specs.MaxMin.{max_of, min_of};
 ghost use Rattle.number.specs.Next.{next_up, next_down};
 ghost use Rattle.number.specs.Near as Near;
 ghost use Rattle.number.specs.Sound.{sound};
 
-// A NaN yields the other operand, which for b needs no test: no comparison with a NaN holds. Equal operands yield the first,
-// where the library's `max` and `min` leave open which of two zeros they take. (One function of the comparison would be longer.)
-#[tactic(auto, using(crate::specs::Order::passed, crate::specs::Order::lt_right), unfolding(crate::specs::Computing::computing))]
+// b where the test passes, else a. It compiles to no branch.
+#[tactic(auto, unfolding(crate::specs::Computing::computing))]
+fn select(test: bool, a: f64, b: f64) -> f64
+    ensures { result ≡ (when test then b else a) }
+{
+    if test { b } else { a }
+}
+
+// IEEE 754-2019, clause 9.6, maximumNumber. Both selections are the same operand unless the two compare equal: then they are a and b, the same number
+// or zeros, and `&` keeps a sign only where both have it. No comparison with a NaN holds, so that b is passed over where it is one.
+#[tactic(auto, using(crate::proofs::Zeros::greatest), unfolding(crate::specs::Computing::computing))]
 pub fn max(a: f64, b: f64) -> f64
     ensures { result ≡ max_of a b }
 {
     if a.is_nan() {
         return b;
     }
-    if a < b { b } else { a }
+    f64::from_bits(select(a < b, a, b).to_bits() & select(a <= b, a, b).to_bits())
 }
 
-#[tactic(auto, using(crate::specs::Order::passed, crate::specs::Order::lt_left), unfolding(crate::specs::Computing::computing))]
+// The same clause, minimumNumber: `|` keeps a sign that either has.
+#[tactic(auto, using(crate::proofs::Zeros::least), unfolding(crate::specs::Computing::computing))]
 pub fn min(a: f64, b: f64) -> f64
     ensures { result ≡ min_of a b }
 {
     if a.is_nan() {
         return b;
     }
-    if b < a { b } else { a }
+    f64::from_bits(select(b < a, a, b).to_bits() | select(b <= a, a, b).to_bits())
 }
 
 #[tactic(auto, using(crate::proofs::Signs::magnitude))]

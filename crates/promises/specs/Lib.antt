@@ -9,3 +9,4 @@ pub mod Demand1
 pub mod Demand3
 pub mod Left
 pub mod Starred
+pub mod SignOfZero
