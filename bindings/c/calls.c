@@ -252,6 +252,8 @@ static void numbers(void) {
     HOLDS(eml_next_up(-0.0) == DBL_TRUE_MIN && eml_next_down(0.0) == -DBL_TRUE_MIN);
     HOLDS(eml_bits_of(eml_next_up(-DBL_TRUE_MIN)) == eml_bits_of(-0.0) && eml_bits_of(eml_next_down(DBL_TRUE_MIN)) == eml_bits_of(0.0));
     HOLDS(eml_sign_bit(-0.0) && !eml_sign_bit(0.0));
+    HOLDS(!eml_sign_bit(eml_max(-0.0, 0.0)) && !eml_sign_bit(eml_max(0.0, -0.0)) && eml_sign_bit(eml_max(-0.0, -0.0)));
+    HOLDS(eml_sign_bit(eml_min(-0.0, 0.0)) && eml_sign_bit(eml_min(0.0, -0.0)) && !eml_sign_bit(eml_min(0.0, 0.0)));
     HOLDS(eml_of_bits(0x4008000000000000) == 3.0 && eml_bits_of(3.0) == 0x4008000000000000);
 }
 
@@ -265,6 +267,8 @@ static void intervals(void) {
     HOLDS(low == 2.0 && high == 4.0);
     eml_interval_hull(1.0, 2.0, 4.0, 5.0, &low, &high);
     HOLDS(low == 1.0 && high == 5.0);
+    eml_interval_intersect(-0.0, 1.0, 0.0, 0.0, &low, &high);
+    HOLDS(low == 0.0 && !eml_sign_bit(low) && high == 0.0);
     HOLDS(eml_interval_is_empty(2.0, 1.0) && !eml_interval_is_empty(1.0, 2.0));
     HOLDS(eml_interval_contains(1.0, 4.0, 4.0) && !eml_interval_contains(1.0, 4.0, 5.0));
 }

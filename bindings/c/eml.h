@@ -468,10 +468,10 @@ bool eml_interval_contains(double lo, double hi, double x);
 /* The lower half is [low, middle], the upper one [middle, high]. */
 void eml_interval_split(double lo, double hi, double *low, double *middle, double *high);
 
-/* What [lo, hi] and [other, another] both have; empty where they lie apart. */
+/* What [lo, hi] and [other, another] both have; empty where they lie apart. Of a -0 and a +0, +0 is the greater low and -0 the lesser high. */
 void eml_interval_intersect(double lo, double hi, double other, double another, double *low, double *high);
 
-/* The smallest interval that has [lo, hi] and [other, another]. */
+/* The smallest interval that has [lo, hi] and [other, another]. Of a -0 and a +0, -0 is the lesser low and +0 the greater high. */
 void eml_interval_hull(double lo, double hi, double other, double another, double *low, double *high);
 
 /* exp of both ends. */

@@ -67,6 +67,16 @@ fn narrowing_of_atoms() {
     assert_eq!(propagate(ne, 0.0, 1e-13).0, Conflict);
 }
 
+/// Document 02 [3]: -0 is below +0 where two ends meet. In [-0,1] the equation's lo is +0, where the first of equals would be -0; and
+/// where a branch of an Or has that box and another the one before, the hull's lo is -0 again.
+#[test]
+fn narrowing_at_zeros() {
+    use PropResult::Changed;
+    assert_eq!(propagate(eq(), -0.0, 1.0), (Changed, bits(0.0, 0.0)));
+    let or = EmlConstraint::Or(vec![eq(), gt()]);
+    assert_eq!(propagate(or, -0.0, 1.0).1, bits(-0.0, 1.0));
+}
+
 #[test]
 fn narrowing_of_and_and_or() {
     use PropResult::{Changed, Conflict, Stable};

@@ -3,7 +3,7 @@
 
 use reference::compare::{Tally, hex, say};
 use reference::generate::{self, Shape, Temper};
-use reference::house;
+use reference::house::{self, Node, Parts, Record, kind};
 use reference::port::{self, bits};
 use reference::smt::interval::{Interval, IntervalDomain, PropResult};
 use reference::splitmix::SplitMix64;
@@ -86,6 +86,21 @@ fn propagation() {
         "propagate: 300000 compared on ends and on intervals, all equal; Changed {changed}, Stable {stable}, Conflict {conflict}, of which {written} had written"
     ));
     assert!(answers.iter().all(|&n| n >= 20_000) && written >= 1_000);
+}
+
+/// The smallest problem in which it matters to an interval that -0 is below +0: Var 0 = 0 in [-0,1].
+#[test]
+fn zero_of_two_signs() {
+    let parts = Parts {
+        nodes: vec![Node::Var(0)],
+        constraints: vec![Record::new(kind::EQ_ZERO, 0)],
+        bounds: vec![(-0.0, 1.0)],
+    };
+    let bodies = parts.to_bodies();
+    let (mut lo, mut hi) = port::ends(&parts.bounds);
+    let answer = port::propagate(&bodies.nodes, &bodies.constraints, &mut lo, &mut hi);
+    assert_eq!(answer, Ok(PropResult::Changed));
+    assert_eq!((hex(&lo), hex(&hi)), (hex(&[0.0]), hex(&[0.0])));
 }
 
 /// Of two lists of ends, which may differ in length, and of one list of intervals.

@@ -92,7 +92,7 @@ impl Interval {
         (lower, upper)
     }
 
-    /// What both have; empty where they lie apart. Of two ends that are zeros, +0 is the greater lo and -0 the lesser hi.
+    /// What both have; empty where they lie apart. Of a -0 and a +0, +0 is the greater lo and -0 the lesser hi.
     #[inline]
     #[must_use]
     pub fn intersect(self, other: Self) -> Self {
@@ -101,7 +101,7 @@ impl Interval {
         })
     }
 
-    /// The smallest interval that has both. Of two ends that are zeros, -0 is the lesser lo and +0 the greater hi.
+    /// The smallest interval that has both. Of a -0 and a +0, -0 is the lesser lo and +0 the greater hi.
     #[inline]
     #[must_use]
     pub fn hull(self, other: Self) -> Self {
