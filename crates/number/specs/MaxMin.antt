@@ -18,7 +18,8 @@ abbrev pub ge : Float → Float → Bool
 ge x y = le y x
 
 -- ---- the definitions
--- less in clause 9.6: -0 compares less than +0. These are the operands that compare equal where the first alone has the sign.
+-- less in clause 9.6: as clause 5.11 compares, and -0 is less than +0. These two are the operands that compare equal of which the first alone has the
+-- sign; `lt` and `eq` are false with a NaN.
 abbrev pub first_alone : Float → Float → Bool
 first_alone x y = sign_bit x && not (sign_bit y)
 
