@@ -468,10 +468,12 @@ bool eml_interval_contains(double lo, double hi, double x);
 /* The lower half is [low, middle], the upper one [middle, high]. */
 void eml_interval_split(double lo, double hi, double *low, double *middle, double *high);
 
-/* What [lo, hi] and [other, another] both have; empty where they lie apart. Of a -0 and a +0, +0 is the greater low and -0 the lesser high. */
+/* What [lo, hi] and [other, another] both have; empty where they lie apart. Of two lower ends that are -0 and +0 it takes +0, of two such
+   upper ends -0. */
 void eml_interval_intersect(double lo, double hi, double other, double another, double *low, double *high);
 
-/* The smallest interval that has [lo, hi] and [other, another]. Of a -0 and a +0, -0 is the lesser low and +0 the greater high. */
+/* The smallest interval that has [lo, hi] and [other, another]. Of two lower ends that are -0 and +0 it takes -0, of two such upper ends
+   +0. */
 void eml_interval_hull(double lo, double hi, double other, double another, double *low, double *high);
 
 /* exp of both ends. */

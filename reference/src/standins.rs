@@ -1,4 +1,5 @@
-//! Document 01's stand-ins for library mathematics, written from its text.
+//! Document 01's stand-ins for library mathematics, written from its text; max and min from IEEE 754-2019 clause 9.6, as document 02 [3]
+//! has it.
 //!
 //! Each operation is rounded once, in the order shown there; no multiplication is fused with an addition. The larger
 //! functions are kept as calls, so that the benchmark compares calls with calls. The features `platform` and `rounded` put
@@ -188,8 +189,8 @@ pub fn atan(t: f64) -> f64 {
     base + u * s
 }
 
-/// IEEE 754-2019 clause 9.6, maximumNumber: x if x > y, y if y > x, and the number if one operand is a NaN; here -0 compares less
-/// than +0. Equal operands with the same sign are the same.
+/// IEEE 754-2019 clause 9.6, maximumNumber: x if x > y, y if y > x, the number if the other operand is a NaN, a NaN if both are; here
+/// -0 compares less than +0. Equal operands with the same sign are the same.
 #[inline]
 pub fn max(x: f64, y: f64) -> f64 {
     if x > y || y.is_nan() {

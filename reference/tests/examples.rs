@@ -67,14 +67,16 @@ fn narrowing_of_atoms() {
     assert_eq!(propagate(ne, 0.0, 1e-13).0, Conflict);
 }
 
-/// Document 02 [3]: -0 is below +0 where two ends meet. In [-0,1] the equation's lo is +0, where the first of equals would be -0; and
-/// where a branch of an Or has that box and another the one before, the hull's lo is -0 again.
+/// Document 02 [3]: -0 is below +0 in max and min. In [-0,1] the equation gives [+0,+0] and LeZero [-0,+0]; the hull of both, written by
+/// Or, is [-0,+0].
 #[test]
 fn narrowing_at_zeros() {
     use PropResult::Changed;
     assert_eq!(propagate(eq(), -0.0, 1.0), (Changed, bits(0.0, 0.0)));
-    let or = EmlConstraint::Or(vec![eq(), gt()]);
-    assert_eq!(propagate(or, -0.0, 1.0).1, bits(-0.0, 1.0));
+    let le = EmlConstraint::LeZero(var());
+    assert_eq!(propagate(le.clone(), -0.0, 1.0), (Changed, bits(-0.0, 0.0)));
+    let or = EmlConstraint::Or(vec![eq(), le]);
+    assert_eq!(propagate(or, -0.0, 1.0), (Changed, bits(-0.0, 0.0)));
 }
 
 #[test]

@@ -52,8 +52,8 @@ const AROUND_ZERO: [f64; 9] = [
     f64::NAN,
 ];
 
-/// Four ends of which most are a zero: each four of the above, and as many random ones as elsewhere. Of the latter, in at least a
-/// fifth each two zeros with different signs meet at lo, and at hi.
+/// Four ends of which most are a zero: every four of the above, and as many random ones as elsewhere. Two zeros with different signs
+/// meet at lo in at least a fifth of the random ones, and at hi in as many.
 fn at_zeros(mut c: Comparison<4, 2>, seed: u64) {
     for a in AROUND_ZERO {
         for b in AROUND_ZERO {

@@ -92,7 +92,8 @@ impl Interval {
         (lower, upper)
     }
 
-    /// What both have; empty where they lie apart. Of a -0 and a +0, +0 is the greater lo and -0 the lesser hi.
+    /// What both have; empty where they lie apart. Of two `lo` that are -0 and +0 it takes +0,
+    /// of two such `hi` -0.
     #[inline]
     #[must_use]
     pub fn intersect(self, other: Self) -> Self {
@@ -101,7 +102,7 @@ impl Interval {
         })
     }
 
-    /// The smallest interval that has both. Of a -0 and a +0, -0 is the lesser lo and +0 the greater hi.
+    /// The smallest interval that has both. Of two `lo` that are -0 and +0 it takes -0, of two such `hi` +0.
     #[inline]
     #[must_use]
     pub fn hull(self, other: Self) -> Self {

@@ -29,7 +29,7 @@ not_as_the_rust : narrowed (Not (var GtZero)) (minus 3 ‥ minus 1) ≡ (Conflic
 unfolding computing
 not_as_the_rust = refl
 
--- the greater of two zeros is +0: in [-0,1] an equation moves both ends, and lo is no longer -0
+-- the greater of two zeros is +0: in [-0,1] an equation writes both ends, and lo is no longer -0
 zero_of_two_signs : narrowed (var EqZero) (neg (whole 0) ‥ whole 1) ≡ (Changed leaving (whole 0 ‥ whole 0) ∷ [])
 unfolding computing
 zero_of_two_signs = refl

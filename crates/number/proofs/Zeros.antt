@@ -1,4 +1,5 @@
--- `max` and `min` of the code: two numbers that compare equal are the same or zeros, whose patterns differ in the sign's bit. Assumes nothing.
+-- `max` and `min` of the code: two numbers that compare equal are the same, or are the two zeros, whose patterns differ in the sign's bit alone.
+-- Assumes nothing.
 use Rattle.std.proofs.Common.{◌≡◌, ℕ, Bool, true, false, not, T, pos, sym, ap, ◌∙◌, subst, subst₂, refl, ⊎_elim}
 use Rattle.std.proofs.Math.Dec.{T_not, not_T}
 use Rattle.std.specs.Int.Bits.{bit_and, bit_or, and_self, or_self}
@@ -8,14 +9,11 @@ use Rattle.number.specs.Notation.{when◌then◌else◌}
 use Rattle.number.specs.Sign.{sign_bit}
 use Rattle.number.specs.Order.{number, naught, passed, failed, le_left, le_right, lt→le, le→not_lt, le_split, eq_sym, eq_trans}
 use Rattle.number.specs.Pattern.{eq_same, eq_signed}
-use Rattle.number.specs.MaxMin.{Bounds, ge, max_of, min_of, max_laws, min_laws, kept, takes_first, takes_second}
+use Rattle.number.specs.MaxMin.{Bounds, gt, ge, max_of, min_of, max_laws, min_laws, kept, takes_first, takes_second}
 use Rattle.number.specs.Computing.{computing}
 
 abbrev pattern : Float → ℕ
 pattern x = to_bits binary64 x
-
-abbrev gt : Float → Float → Bool
-gt x y = lt y x
 
 abbrev zero : Bool → Float
 zero s = fin s 0 (pos 0)
@@ -28,8 +26,8 @@ a_zero x h e = is (sign_bit x) refl
     is true p = eq_signed binary64 x (zero true) h (unfold computing in tt) (eq_trans x naught (zero true) e (unfold computing in tt)) (p ∙ unfold computing in refl)
     is false p = eq_signed binary64 x naught h (unfold computing in tt) e (p ∙ unfold computing in refl)
 
--- The choice `m` by two selections: b where `t a b` and where `r a b`, else a. Where they differ, a and b compare equal, and `op` of the patterns is
--- the pattern.
+-- The choice `m` by two selections, b where `t a b`, else a, and b where `r a b`, else a. Where they differ, a and b compare equal. `op` of the two
+-- patterns is the pattern of `m a b`.
 module _ (op : ℕ → ℕ → ℕ) (self : (n : ℕ) → op n n ≡ n) (m : Float → Float → Float) (r t : Float → Float → Bool) (L : Bounds r m)
     (zeros : (u v : Bool) → op (pattern (zero u)) (pattern (zero v)) ≡ pattern (m (zero u) (zero v)))
     (strict : (x y : Float) → T (t x y) → T (not (r y x)) × T (r x y)) (weak : (x y : Float) → T (not (t x y)) → T (r x y) → T (eq x y))

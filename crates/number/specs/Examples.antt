@@ -26,6 +26,7 @@ min_nan_zero : (min_of nan +0 ≡ +0) × (min_of -0 nan ≡ -0)
 unfolding computing
 min_nan_zero = (refl, refl)
 
+-- of two NaNs a NaN
 no_number : (max_of nan nan ≡ nan) × (min_of nan nan ≡ nan)
 unfolding computing
 no_number = (refl, refl)

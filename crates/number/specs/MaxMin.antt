@@ -14,12 +14,15 @@ use Rattle.number.specs.Sign.{sign_bit}
 use Rattle.number.specs.Pattern.{eq_signed}
 
 -- the order of clause 5.11 the other way
+abbrev pub gt : Float → Float → Bool
+gt x y = lt y x
+
 abbrev pub ge : Float → Float → Bool
 ge x y = le y x
 
 -- ---- the definitions
--- less in clause 9.6: as clause 5.11 compares, and -0 is less than +0. These two are the operands that compare equal of which the first alone has the
--- sign; `lt` and `eq` are false with a NaN.
+-- less in clause 9.6: as clause 5.11 compares, and -0 is less than +0. Two operands compare equal and the first alone has its sign bit set only where
+-- they are these.
 abbrev pub first_alone : Float → Float → Bool
 first_alone x y = sign_bit x && not (sign_bit y)
 
@@ -102,7 +105,7 @@ pub min_laws : IsMin min_of
 unfolding min_of
 min_laws = choose_bounds ge greater le_refl (λ a b p q h. less→le b a h) (λ a b p q n. not_lt→le b a q p (not_less→not_lt b a n))
 
--- ---- the laws of clause 9.6, which tell the zeros apart: neither operand that is no NaN is above max or below min
+-- ---- the laws of clause 9.6, which tell the zeros apart: no operand but a NaN is above max or below min
 abbrev pub at_most : Float → Float → Bool
 at_most x y = not (less y x)
 

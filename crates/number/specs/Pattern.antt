@@ -109,7 +109,7 @@ pub zero_is : (s : Bool) (m : ℕ) (e : ℤ) → m * up e ≡ 0 → T (eq (fin s
 zero_is true m e z = le_antisym (fin true m e) naught (⊑→le (fin true m e) naught tt tt (omega arith)) (⊑→le naught (fin true m e) tt tt (omega arith))
 zero_is false m e z = le_antisym (fin false m e) naught (⊑→le (fin false m e) naught tt tt (omega arith)) (⊑→le naught (fin false m e) tt tt (omega arith))
 
--- with the same sign they are, zeros too
+-- equal values with the same sign are the same value, zeros too
 pub eq_signed : (f : Format) (x y : Float) → T (fits f x) → T (fits f y) → T (eq x y) → sign_bit x ≡ sign_bit y → x ≡ y
 unfolding eq neg sign_bit
 eq_signed f nan y h k e s = absurd e

@@ -7,7 +7,7 @@ use Rattle.std.proofs.Math.Dec.{not_T, T_not}
 use Rattle.std.specs.Float.{nan, inf, fin, Format}
 use Rattle.std.specs.Float.Ieee.{fits}
 use Rattle.number.specs.Order.{number, le_left, le_right}
-use Rattle.number.specs.MaxMin.{Bounds, less, greater, max_of, min_of, less→le, less_total, at_most, at_least, max_greatest, min_least, takes_first, takes_second}
+use Rattle.number.specs.MaxMin.{less, greater, max_of, min_of, less→le, less_total, at_most, at_least, max_greatest, min_least, takes_first, takes_second}
 use Rattle.number.specs.Computing.{computing}
 
 -- "-0 below +0", and not the other way round
@@ -15,14 +15,14 @@ below : T (less (fin true 0 (pos 0)) (fin false 0 (pos 0))) × T (not (less (fin
 unfolding computing
 below = (tt, tt)
 
--- The clause, by the order `over` of its operation, in which -0 is below +0: x if it is over y, y if it is over x, the number if the other is a NaN,
--- a NaN if both are; and where neither is over the other either of them, which are then the same.
-pub record Clause (over : Float → Float → Bool) (op : Float → Float → Float) : Type 0 where
-  pub first : (x y : Float) → T (over x y) → op x y ≡ x
-  pub second : (x y : Float) → T (over y x) → op x y ≡ y
+-- The clause. `prefers` is the operation's own test, greater for maximumNumber and less for minimumNumber, both with -0 below +0: x if it is preferred to
+-- y, y if it is preferred to x, the number if the other is a NaN, a NaN if both are; and where neither is preferred either of them, which are the same.
+pub record Clause (prefers : Float → Float → Bool) (op : Float → Float → Float) : Type 0 where
+  pub first : (x y : Float) → T (prefers x y) → op x y ≡ x
+  pub second : (x y : Float) → T (prefers y x) → op x y ≡ y
   pub nan_second : (x : Float) → op x nan ≡ x
   pub nan_first : (y : Float) → op nan y ≡ y
-  pub neither : (f : Format) (x y : Float) → T (fits f x) → T (fits f y) → T (number x) → T (number y) → T (not (over x y)) → T (not (over y x)) → (op x y ≡ x) × (op x y ≡ y)
+  pub neither : (f : Format) (x y : Float) → T (fits f x) → T (fits f y) → T (number x) → T (number y) → T (not (prefers x y)) → T (not (prefers y x)) → (op x y ≡ x) × (op x y ≡ y)
 
 -- one of two that are the same is both
 both : (z x y : Float) → (z ≡ x) ⊎ (z ≡ y) → x ≡ y → (z ≡ x) × (z ≡ y)

@@ -1,6 +1,6 @@
 // From the repository cool-japan/oxieml, commit fd90575a01, file src/smt/helpers.rs.
 // Apache License, Version 2.0; the licence is in NOTICE at the root of this repository.
-// This file was modified: maximum, minimum and the empty sum are document 01's, and the functions are public.
+// This file was modified: the empty sum is document 01's, maximum and minimum are document 02's [3], and the functions are public.
 // REPLACED.md lists every change.
 
 use super::constraint::EmlConstraint;

@@ -1,7 +1,7 @@
 // From the repository cool-japan/oxieml, commit fd90575a01, file src/smt/interval.rs.
 // Apache License, Version 2.0; the licence is in NOTICE at the root of this repository.
-// This file was modified: exp, ln, maximum, minimum and the neighbours of zero are
-// document 01's, and the functions are public.
+// This file was modified: exp, ln and the neighbours of zero are document 01's,
+// maximum and minimum document 02's [3], and the functions are public.
 // REPLACED.md lists every change.
 
 use super::constraint::EmlConstraint;
