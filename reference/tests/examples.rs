@@ -79,6 +79,15 @@ fn narrowing_at_zeros() {
     assert_eq!(propagate(or, -0.0, 1.0), (Changed, bits(-0.0, 0.0)));
 }
 
+/// The angle of a complex ln has the sign bit of a zero, so a check can tell the zeros apart: e - ln(x) is infinite at +0 and has an
+/// imaginary part at -0.
+#[test]
+fn zeros_in_the_check() {
+    let above = EmlConstraint::GtZero(EmlTree::eml(&EmlTree::one(), &var()));
+    assert!(check_constraint(&above, &EvalCtx::new(&[0.0])));
+    assert!(!check_constraint(&above, &EvalCtx::new(&[-0.0])));
+}
+
 #[test]
 fn narrowing_of_and_and_or() {
     use PropResult::{Changed, Conflict, Stable};
