@@ -1,6 +1,6 @@
 //! The Rust that the proved port is compared with.
 //!
-//! `tree`, `canonical`, `eval`, `error` and `smt` are the taken functions of the source, with document 01's stand-ins in
+//! `tree`, `canonical`, `eval`, `error` and `smt` are the taken functions of the source, with the documents' stand-ins in
 //! the places of the library calls (REPLACED.md lists them). `standins` are these stand-ins. `counted` is `solve` with its
 //! stop word and count of halvings. `house` reads the house file, `generate` makes problems and damage, `replay` makes the
 //! cases of the program `table`, `printed` the printing program's lines, and `port` adds to the bindings

@@ -192,24 +192,26 @@ fn constructors_and_inverses() {
     );
 }
 
+fn intersections(name: &'static str) -> Comparison<4, 2> {
+    Comparison::new(
+        name,
+        |[a, b, x, y]| ends(Interval::new(a, b).intersect(&Interval::new(x, y))),
+        |[a, b, x, y]| our_ends(eml::Interval::new(a, b).intersect(eml::Interval::new(x, y))),
+    )
+}
+
+fn hulls(name: &'static str) -> Comparison<4, 2> {
+    Comparison::new(
+        name,
+        |[a, b, x, y]| ends(Interval::new(a, b).hull(&Interval::new(x, y))),
+        |[a, b, x, y]| our_ends(eml::Interval::new(a, b).hull(eml::Interval::new(x, y))),
+    )
+}
+
 #[test]
 fn methods_of_two() {
-    at_four(
-        Comparison::new(
-            "Interval::intersect",
-            |[a, b, x, y]| ends(Interval::new(a, b).intersect(&Interval::new(x, y))),
-            |[a, b, x, y]| our_ends(eml::Interval::new(a, b).intersect(eml::Interval::new(x, y))),
-        ),
-        57,
-    );
-    at_four(
-        Comparison::new(
-            "Interval::hull",
-            |[a, b, x, y]| ends(Interval::new(a, b).hull(&Interval::new(x, y))),
-            |[a, b, x, y]| our_ends(eml::Interval::new(a, b).hull(eml::Interval::new(x, y))),
-        ),
-        58,
-    );
+    at_four(intersections("Interval::intersect"), 57);
+    at_four(hulls("Interval::hull"), 58);
     at_four(
         Comparison::new(
             "Interval::contains",
@@ -223,20 +225,6 @@ fn methods_of_two() {
 /// Where the two sides must choose the same zero.
 #[test]
 fn ends_of_both_zeros() {
-    at_zeros(
-        Comparison::new(
-            "Interval::intersect at zeros",
-            |[a, b, x, y]| ends(Interval::new(a, b).intersect(&Interval::new(x, y))),
-            |[a, b, x, y]| our_ends(eml::Interval::new(a, b).intersect(eml::Interval::new(x, y))),
-        ),
-        64,
-    );
-    at_zeros(
-        Comparison::new(
-            "Interval::hull at zeros",
-            |[a, b, x, y]| ends(Interval::new(a, b).hull(&Interval::new(x, y))),
-            |[a, b, x, y]| our_ends(eml::Interval::new(a, b).hull(eml::Interval::new(x, y))),
-        ),
-        65,
-    );
+    at_zeros(intersections("Interval::intersect at zeros"), 64);
+    at_zeros(hulls("Interval::hull at zeros"), 65);
 }

@@ -1,5 +1,5 @@
-// The f64 operations of document 01 that are not the machine's own: maximum and minimum, magnitude and sign, bit patterns,
-// neighbours, the nearest whole number; and the test of a sound range.
+// The f64 operations of document 01 that are not the machine's own: maximum and minimum, by document 02 [3] now, magnitude and sign, bit
+// patterns, neighbours, the nearest whole number; and the test of a sound range.
 #![tactic(auto)]
 
 ghost use Rattle.std.specs.Prelude.{◌≡◌, ◌^◌, T, from_bits, to_bits};

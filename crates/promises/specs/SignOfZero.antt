@@ -1,6 +1,5 @@
--- Document 02 [3]: "IEEE 754-2019 clause 9.6 orders -0 below +0 in maximumNumber and minimumNumber. [...] Our other engraving tools follow the clause, so
--- this solver should too. A NaN still yields the other operand." Of `max_of` and `min_of`, which the contracts of `eml_max` and `eml_min` say that the
--- calls return, and by which intersection, hull, narrowing and residual are defined. Assumes nothing.
+-- Document 02 [3], the sign of zero, of `max_of` and `min_of`: the contracts of `eml_max` and `eml_min` say that the calls return these, and intersection,
+-- hull, narrowing and residual are defined by them. Assumes nothing.
 use Rattle.std.specs.Prelude.{◌≡◌, Bool, true, false, not, T, ◌⊎◌, pos, refl, Float}
 use Rattle.std.proofs.Common.{sym, ◌∙◌, ⊎_elim}
 use Rattle.std.proofs.Math.Dec.{not_T, T_not}
@@ -10,8 +9,8 @@ use Rattle.number.specs.Order.{number, le_left, le_right}
 use Rattle.number.specs.MaxMin.{less, greater, max_of, min_of, less→le, less_total, at_most, at_least, max_greatest, min_least, takes_first, takes_second}
 use Rattle.number.specs.Computing.{computing}
 
--- "-0 below +0", and not the other way round
-below : T (less (fin true 0 (pos 0)) (fin false 0 (pos 0))) × T (not (less (fin false 0 (pos 0)) (fin true 0 (pos 0))))
+-- "IEEE 754-2019 clause 9.6 orders -0 below +0 in maximumNumber and minimumNumber." And not the other way round.
+pub below : T (less (fin true 0 (pos 0)) (fin false 0 (pos 0))) × T (not (less (fin false 0 (pos 0)) (fin true 0 (pos 0))))
 unfolding computing
 below = (tt, tt)
 
@@ -20,6 +19,7 @@ below = (tt, tt)
 pub record Clause (prefers : Float → Float → Bool) (op : Float → Float → Float) : Type 0 where
   pub first : (x y : Float) → T (prefers x y) → op x y ≡ x
   pub second : (x y : Float) → T (prefers y x) → op x y ≡ y
+  -- "A NaN still yields the other operand."
   pub nan_second : (x : Float) → op x nan ≡ x
   pub nan_first : (y : Float) → op nan y ≡ y
   pub neither : (f : Format) (x y : Float) → T (fits f x) → T (fits f y) → T (number x) → T (number y) → T (not (prefers x y)) → T (not (prefers y x)) → (op x y ≡ x) × (op x y ≡ y)
@@ -28,6 +28,7 @@ pub record Clause (prefers : Float → Float → Bool) (op : Float → Float →
 both : (z x y : Float) → (z ≡ x) ⊎ (z ≡ y) → x ≡ y → (z ≡ x) × (z ≡ y)
 both z x y o e = ⊎_elim (λ p. (p, p ∙ e)) (λ q. (q ∙ sym e, q)) o
 
+-- "Our other engraving tools follow the clause, so this solver should too."
 pub maximum_number : Clause greater max_of
 unfolding computing
 maximum_number = record { first = first; second = second; nan_second = nan_second; nan_first = nan_first; neither = neither }
