@@ -28,7 +28,7 @@ use Rattle.narrow.specs.contracts.PropResult.{the_type}
 use Rattle.narrow.specs.declared.PropResult.{PropResult}
 use Rattle.narrow.specs.declared.PropResult.TheVariants.{Stable, Changed, Conflict}
 use Rattle.narrow.specs.Narrowing.{is_conflict}
-use Rattle.decide.specs.Deciding.{QuantResult, later_refusal, decided_by}
+use Rattle.decide.specs.Deciding.{QuantResult, decided_by}
 
 -- ---- the first sample that passes the test
 pub first : {F : Type 0} {g : Mut F (Bor Float × Unit {0}) Bool} (test : Float → Bool) {s : IntoIter Float 5} (u : IntoIter Float 5) {f : F} {r : Option Float} {xs : List Float}
@@ -43,19 +43,17 @@ is_met Stable = refl
 is_met Changed = refl
 is_met Conflict = refl
 
--- ---- the calls
-module _ (nodes b : List ℕ) (lo hi : Float) (n room : ℕ) (decide : Constraint → QuantResult) where
-  pub call_refused : (r : Refusal) → number_of r ≡ given_refusal nodes b or_else later_refusal lo hi n room
-      → Err (number_of r) ≡ decided_by (read_given nodes b) (later_refusal lo hi n room) decide
-  call_refused r e = by (given_refusal nodes b) (later_refusal lo hi n room) refl refl e
+-- ---- the calls: `later` are the refusals after the records' own
+module _ (nodes b : List ℕ) (later : ℕ) (decide : Constraint → QuantResult) where
+  pub call_refused : (r : Refusal) → number_of r ≡ given_refusal nodes b or_else later → Err (number_of r) ≡ decided_by (read_given nodes b) later decide
+  call_refused r e = by (given_refusal nodes b) later refl refl e
     where
-      by : (g m : ℕ) → given_refusal nodes b ≡ g → later_refusal lo hi n room ≡ m → number_of r ≡ g or_else m → Err (number_of r) ≡ decided_by (read_given nodes b) (later_refusal lo hi n room) decide
+      by : (g m : ℕ) → given_refusal nodes b ≡ g → later ≡ m → number_of r ≡ g or_else m → Err (number_of r) ≡ decided_by (read_given nodes b) later decide
       by zero zero p q t = absurd (never_none r t)
       by zero (suc m) p q t = rw (given_is nodes b p, q) (ap Err t)
       by (suc g) m p q t = rw (given_refused nodes b (suc g) (sym p) (λ z. omega arith)) (ap Err t)
 
-  pub call_answered : 0 ≡ given_refusal nodes b or_else later_refusal lo hi n room → {c : Constraint} → read_given nodes b ≡ Accepted c []
-      → {z : QuantResult} → z ≡ decide c → Ok z ≡ decided_by (read_given nodes b) (later_refusal lo hi n room) decide
-  call_answered e read w = rw (read, (none_both (given_refusal nodes b) (later_refusal lo hi n room) (sym e)).1) (ap Ok w)
+  pub call_answered : 0 ≡ given_refusal nodes b or_else later → {c : Constraint} → read_given nodes b ≡ Accepted c [] → {z : QuantResult} → z ≡ decide c → Ok z ≡ decided_by (read_given nodes b) later decide
+  call_answered e read w = rw (read, (none_both (given_refusal nodes b) later (sym e)).1) (ap Ok w)
 
 pub ruleset calls = (call_refused, call_answered)

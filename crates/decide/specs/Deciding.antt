@@ -6,6 +6,7 @@ use Rattle.std.specs.Float.Ieee.{neg}
 use Rattle.number.specs.Notation.{whole, decimal, ◌⊕◌, ◌⊖◌, ◌⊗◌}
 use Rattle.number.specs.Halving.{mid}
 use Rattle.number.specs.Sound.{sound}
+use Rattle.settings.specs.Settings.{settings_refusal}
 use Rattle.settings.specs.declared.Settings.{Settings}
 use Rattle.interval.specs.declared.Interval.{Interval}
 use Rattle.interval.specs.Interval.{◌‥◌}
@@ -86,9 +87,9 @@ verdict_number Unknown = 3
 unfoldable pub range_refusal : Float → Float → ℕ → ℕ
 range_refusal lo hi n = 9 unless leb n 16 && sound binary64 lo hi
 
--- then 10: fewer places for a point than variables
-unfoldable pub later_refusal : Float → Float → ℕ → ℕ → ℕ
-later_refusal lo hi n room = range_refusal lo hi n or_else 10 unless leb n room
+-- 14: a parameter outside its range; those; then 10: fewer places for a point than variables
+unfoldable pub later_refusal : Settings → Float → Float → ℕ → ℕ → ℕ
+later_refusal σ lo hi n room = settings_refusal σ or_else range_refusal lo hi n or_else 10 unless leb n room
 
 -- the records' own refusal, 2 to 7, then those
 abbrev pub decided_by : Read → ℕ → (Constraint → QuantResult) → Result QuantResult ℕ
@@ -96,7 +97,7 @@ decided_by (Refused r) later decide = Err r
 decided_by (Accepted c bounds) later decide = refused_or later Err (Ok (decide c))
 
 unfoldable pub decide_forall_given : Settings → List ℕ → List ℕ → ℕ → Float → Float → ℕ → ℕ → Result QuantResult ℕ
-decide_forall_given σ nodes b v lo hi n room = decided_by (read_given nodes b) (later_refusal lo hi n room) λ c. decide_forall σ v lo hi c n
+decide_forall_given σ nodes b v lo hi n room = decided_by (read_given nodes b) (later_refusal σ lo hi n room) λ c. decide_forall σ v lo hi c n
 
 unfoldable pub decide_exists_given : Settings → List ℕ → List ℕ → ℕ → Float → Float → ℕ → ℕ → Result QuantResult ℕ
-decide_exists_given σ nodes b v lo hi n room = decided_by (read_given nodes b) (later_refusal lo hi n room) λ c. decide_exists σ v lo hi c n
+decide_exists_given σ nodes b v lo hi n room = decided_by (read_given nodes b) (later_refusal σ lo hi n room) λ c. decide_exists σ v lo hi c n

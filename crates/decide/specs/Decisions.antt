@@ -16,6 +16,7 @@ use Rattle.number.specs.Notation.{whole}
 use Rattle.number.specs.Sound.{sound}
 use Rattle.record.specs.Refusal.{◌unless◌}
 use Rattle.record.specs.RefusalLaws.{both, none_both, none_unless}
+use Rattle.settings.specs.Settings.{settings_refusal}
 use Rattle.settings.specs.declared.Settings.{Settings}
 use Rattle.interval.specs.Interval.{◌‥◌}
 use Rattle.constraint.specs.Constraint.{Constraint, Not}
@@ -100,41 +101,41 @@ module _ (σ : Settings) (v : ℕ) (lo hi : Float) (c : Constraint) (n : ℕ) wh
       by (Some x) = omega (arith, point_length n v x)
 
 -- ---- the calls
-pub later_few : (lo hi : Float) (n room : ℕ) → later_refusal lo hi n room ≡ 0 → (n ≤ 16) × (n ≤ room)
+pub later_few : (σ : Settings) (lo hi : Float) (n room : ℕ) → later_refusal σ lo hi n room ≡ 0 → (n ≤ 16) × (n ≤ room)
 unfolding later_refusal range_refusal
-later_few lo hi n room e =
-    let w = none_both (9 unless leb n 16 && sound binary64 lo hi) (10 unless leb n room) e in
+later_few σ lo hi n room e =
+    let w = none_both (9 unless leb n 16 && sound binary64 lo hi) (10 unless leb n room) (none_both (settings_refusal σ) _ e).1 in
     (leb-true n 16 (both (leb n 16) (sound binary64 lo hi) (none_unless 8 (leb n 16 && sound binary64 lo hi) w.0)).0, leb-true n room (none_unless 9 (leb n room) w.1))
 
 -- what a call answers has as many values as there is room for
 abbrev pub Fits : ℕ → Result QuantResult ℕ → Type 0
 Fits room x = IfOk x (λ q. (length (point_of q) ≤ 16) × (length (point_of q) ≤ room))
 
-module _ (lo hi : Float) (n room : ℕ) (decide : Constraint → QuantResult) (few : (c : Constraint) → length (point_of (decide c)) ≤ n) where
-  given_values : (x : Read) (r : ℕ) → later_refusal lo hi n room ≡ r → Fits room (decided_by x r decide)
+module _ (σ : Settings) (lo hi : Float) (n room : ℕ) (decide : Constraint → QuantResult) (few : (c : Constraint) → length (point_of (decide c)) ≤ n) where
+  given_values : (x : Read) (r : ℕ) → later_refusal σ lo hi n room ≡ r → Fits room (decided_by x r decide)
   given_values (Refused q) r e = tt
-  given_values (Accepted c bounds) zero e = let w = later_few lo hi n room e in (omega (arith, few c, w.0), omega (arith, few c, w.1))
+  given_values (Accepted c bounds) zero e = let w = later_few σ lo hi n room e in (omega (arith, few c, w.0), omega (arith, few c, w.1))
   given_values (Accepted c bounds) (suc r) e = tt
 
 module _ (σ : Settings) (nodes b : List ℕ) (v : ℕ) (lo hi : Float) (n room : ℕ) where
   pub forall_given_values : Fits room (decide_forall_given σ nodes b v lo hi n room)
   unfolding decide_forall_given
-  forall_given_values = given_values lo hi n room (λ c. decide_forall σ v lo hi c n) (λ c. forall_values σ v lo hi c n) (read_given nodes b) (later_refusal lo hi n room) refl
+  forall_given_values = given_values σ lo hi n room (λ c. decide_forall σ v lo hi c n) (λ c. forall_values σ v lo hi c n) (read_given nodes b) (later_refusal σ lo hi n room) refl
 
   pub exists_given_values : Fits room (decide_exists_given σ nodes b v lo hi n room)
   unfolding decide_exists_given
-  exists_given_values = given_values lo hi n room (λ c. decide_exists σ v lo hi c n) (λ c. exists_values σ v lo hi c n) (read_given nodes b) (later_refusal lo hi n room) refl
+  exists_given_values = given_values σ lo hi n room (λ c. decide_exists σ v lo hi c n) (λ c. exists_values σ v lo hi c n) (read_given nodes b) (later_refusal σ lo hi n room) refl
 
 -- ---- what a caller receives
 module _ (nodes b : List ℕ) where
   abbrev given : Constraint
   given = left nodes b (length b / 24)
 
-  module _ (lo hi : Float) (n room : ℕ) (decide : Constraint → QuantResult) where
-    received : (q : QuantResult) → decided_by (read_given nodes b) (later_refusal lo hi n room) decide ≡ Ok q → decide given ≡ q
-    received q e = by (given_refusal nodes b) (later_refusal lo hi n room) refl refl
+  module _ (later : ℕ) (decide : Constraint → QuantResult) where
+    received : (q : QuantResult) → decided_by (read_given nodes b) later decide ≡ Ok q → decide given ≡ q
+    received q e = by (given_refusal nodes b) later refl refl
       where
-        by : (g r : ℕ) → given_refusal nodes b ≡ g → later_refusal lo hi n room ≡ r → decide given ≡ q
+        by : (g r : ℕ) → given_refusal nodes b ≡ g → later ≡ r → decide given ≡ q
         by zero zero p w = let z = rw (given_is nodes b p, w) at e in cc
         by zero (suc r) p w = let z = rw (given_is nodes b p, w) at e in absurd (let y : ◌≡◌ {A = ℕ} 0 1 = cc in omega arith)
         by (suc g) r p w = let z = rw (given_refused nodes b (suc g) (sym p) (λ z. omega arith)) at e in absurd (let y : ◌≡◌ {A = ℕ} 0 1 = cc in omega arith)
@@ -142,12 +143,12 @@ module _ (nodes b : List ℕ) where
   module _ (σ : Settings) (v : ℕ) (lo hi : Float) (n room : ℕ) where
     pub witness_received : (p : List Float) → decide_exists_given σ nodes b v lo hi n room ≡ Ok (TrueWithWitness p) → check σ p given ≡ true
     unfolding decide_exists_given
-    witness_received p e = witness_passes σ v lo hi given n p (received lo hi n room (λ c. decide_exists σ v lo hi c n) _ e)
+    witness_received p e = witness_passes σ v lo hi given n p (received _ (λ c. decide_exists σ v lo hi c n) _ e)
 
     pub counterexample_received : (p : List Float) → decide_forall_given σ nodes b v lo hi n room ≡ Ok (FalseWithCounterexample p) → check σ p given ≡ false
     unfolding decide_forall_given
-    counterexample_received p e = counterexample_fails σ v lo hi given n p (received lo hi n room (λ c. decide_forall σ v lo hi c n) _ e)
+    counterexample_received p e = counterexample_fails σ v lo hi given n p (received _ (λ c. decide_forall σ v lo hi c n) _ e)
 
     pub true_received : decide_forall_given σ nodes b v lo hi n room ≡ Ok True → (propagate σ (to_nnf (Not given)) (boxes_at n v (lo ‥ hi))).answer ≡ Conflict
     unfolding decide_forall_given
-    true_received e = (true_exactly σ v lo hi given n).0 (received lo hi n room (λ c. decide_forall σ v lo hi c n) _ e)
+    true_received e = (true_exactly σ v lo hi given n).0 (received _ (λ c. decide_forall σ v lo hi c n) _ e)

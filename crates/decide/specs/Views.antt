@@ -2,7 +2,7 @@
 use Rattle.std.specs.Prelude.{ℕ, ◌≡◌, Bool, List, [], Float, Result, Ok, Err}
 use Rattle.record.specs.Refused.{number_of}
 use Rattle.record.specs.declared.refusal.Refusal.{Refusal}
-use Rattle.settings.specs.Settings.{usual}
+use Rattle.settings.specs.declared.Settings.{Settings}
 use Rattle.interval.specs.declared.Interval.{Interval}
 use Rattle.interval.specs.Views.{values_of}
 use Rattle.constraint.specs.Views.{the_constraint}
@@ -41,10 +41,10 @@ abbrev pub answered : Result Verdict Refusal → Result QuantResult ℕ
 answered (Ok v) = Ok (result_of v)
 answered (Err r) = Err (number_of r)
 
--- ---- a question about given records
-pub record Asks (nodes b : List ℕ) (v : ℕ) (i : Interval) (n : ℕ) (q : Question) : Type 0 where
+-- ---- a question about given records, with the settings σ
+pub record Asks (σ : Settings) (nodes b : List ℕ) (v : ℕ) (i : Interval) (n : ℕ) (q : Question) : Type 0 where
   pub constraint_is : read_given nodes b ≡ Accepted (the_constraint q.records) []
-  pub settings_are : q.settings ≡ usual
+  pub settings_are : q.settings ≡ σ
   pub var_is : q.var ≡ v
   pub range_is : q.range ≡ i
   pub count_is : q.count.n ≡ n

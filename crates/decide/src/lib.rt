@@ -6,7 +6,6 @@ mod question;
 ghost use Rattle.std.specs.Prelude.{◌≡◌, IfOk};
 ghost use Rattle.record.specs.Refusal.{◌or_else◌};
 ghost use Rattle.record.specs.Refused.{refusal_of};
-ghost use Rattle.settings.specs.Settings.{usual};
 ghost use Rattle.file.specs.File.{given_refusal};
 ghost use Rattle.decide.specs.Deciding.{verdict_number, later_refusal, decide_forall_given, decide_exists_given};
 ghost use Rattle.decide.specs.Views.{result_of, answered, Asks};
@@ -14,6 +13,7 @@ ghost use Rattle.decide.specs.Views.{result_of, answered, Asks};
 use interval::{Count, Interval, Point};
 use question::Question;
 use record::Refusal;
+use settings::Settings;
 
 // A witness or a counterexample is its point.
 #[derive(Clone, Copy)]
@@ -37,7 +37,7 @@ impl From<Verdict> for u8 {
     }
 }
 
-// The records' refusal, then 9 for over 16 variables or an unsound range, then 10 for fewer places than variables.
+// The records' refusal, then 14 for the settings, then 9 for over 16 variables or an unsound range, then 10 for fewer places than variables.
 #[tactic(auto, unfolding(crate::specs::Deciding::later_refusal, crate::specs::Deciding::range_refusal))]
 fn asked<'a>(
     nodes: &'a [u8],
@@ -45,12 +45,14 @@ fn asked<'a>(
     var: usize,
     range: Interval,
     num_vars: usize,
+    settings: Settings,
     room: usize,
 ) -> Result<Question<'a>, Refusal>
-    ensures refusal { refusal_of result ≡ (given_refusal nodes.now constraints.now or_else later_refusal range.lo range.hi num_vars room) }
-    ensures value { IfOk result (Asks nodes.now constraints.now var range num_vars) }
+    ensures refusal { refusal_of result ≡ (given_refusal nodes.now constraints.now or_else later_refusal settings range.lo range.hi num_vars room) }
+    ensures value { IfOk result (Asks settings nodes.now constraints.now var range num_vars) }
 {
     let records = file::read_given(nodes, constraints)?;
+    settings.test()?;
     let count = Count::try_from(num_vars)?;
     if !range.is_sound() {
         return Err(Refusal::Boxes);
@@ -60,7 +62,7 @@ fn asked<'a>(
     }
     Ok(Question {
         records,
-        settings: settings::usual(),
+        settings,
         var,
         range,
         count,
@@ -76,12 +78,13 @@ pub fn decide_forall(
     lo: f64,
     hi: f64,
     num_vars: usize,
+    settings: Settings,
     room: usize,
 ) -> Result<Verdict, Refusal>
-    ensures { answered result ≡ decide_forall_given usual nodes.now constraints.now var lo hi num_vars room }
+    ensures { answered result ≡ decide_forall_given settings nodes.now constraints.now var lo hi num_vars room }
 {
     let range = Interval { lo, hi };
-    let question = asked(nodes, constraints, var, range, num_vars, room)?;
+    let question = asked(nodes, constraints, var, range, num_vars, settings, room)?;
     Ok(question.forall())
 }
 
@@ -94,11 +97,12 @@ pub fn decide_exists(
     lo: f64,
     hi: f64,
     num_vars: usize,
+    settings: Settings,
     room: usize,
 ) -> Result<Verdict, Refusal>
-    ensures { answered result ≡ decide_exists_given usual nodes.now constraints.now var lo hi num_vars room }
+    ensures { answered result ≡ decide_exists_given settings nodes.now constraints.now var lo hi num_vars room }
 {
     let range = Interval { lo, hi };
-    let question = asked(nodes, constraints, var, range, num_vars, room)?;
+    let question = asked(nodes, constraints, var, range, num_vars, settings, room)?;
     Ok(question.exists())
 }

@@ -1,6 +1,6 @@
 // Decisions about a variable in a range, on records. A refusal leaves the lent places as they were.
 ghost use Rattle.std.specs.Prelude.{length};
-ghost use Rattle.settings.specs.Settings.{usual};
+ghost use Rattle.settings.specs.Settings.{tuned};
 ghost use Rattle.decide.specs.Deciding.{decide_forall_given, decide_exists_given};
 ghost use Rattle.decide.specs.Decisions.{Fits};
 ghost use Rattle.decide.specs.Views.{answered};
@@ -10,6 +10,7 @@ ghost use Rattle.eml.specs.Places.{Decides};
 use crate::answers::put_point;
 use decide::Verdict;
 use record::Refusal;
+use settings::Tuning;
 
 fn put_decided(
     answer: Result<Verdict, Refusal>,
@@ -44,13 +45,24 @@ pub fn eml_decide_forall(
     lo: f64,
     hi: f64,
     num_vars: usize,
+    settings: Tuning,
     verdict: &mut u8,
     count: &mut usize,
     point: &mut [f64],
 ) -> u8
-    ensures { Decides verdict count point result (decide_forall_given usual nodes.now constraints.now var lo hi num_vars (length (old point))) }
+    ensures { Decides verdict count point result (decide_forall_given (tuned settings) nodes.now constraints.now var lo hi num_vars (length (old point))) }
 {
-    let answer = decide::decide_forall(nodes, constraints, var, lo, hi, num_vars, point.len());
+    let room = point.len();
+    let answer = decide::decide_forall(
+        nodes,
+        constraints,
+        var,
+        lo,
+        hi,
+        num_vars,
+        settings.into(),
+        room,
+    );
     put_decided(answer, verdict, count, point)
 }
 
@@ -63,12 +75,23 @@ pub fn eml_decide_exists(
     lo: f64,
     hi: f64,
     num_vars: usize,
+    settings: Tuning,
     verdict: &mut u8,
     count: &mut usize,
     point: &mut [f64],
 ) -> u8
-    ensures { Decides verdict count point result (decide_exists_given usual nodes.now constraints.now var lo hi num_vars (length (old point))) }
+    ensures { Decides verdict count point result (decide_exists_given (tuned settings) nodes.now constraints.now var lo hi num_vars (length (old point))) }
 {
-    let answer = decide::decide_exists(nodes, constraints, var, lo, hi, num_vars, point.len());
+    let room = point.len();
+    let answer = decide::decide_exists(
+        nodes,
+        constraints,
+        var,
+        lo,
+        hi,
+        num_vars,
+        settings.into(),
+        room,
+    );
     put_decided(answer, verdict, count, point)
 }

@@ -13,3 +13,4 @@ pub mod normal_form;
 pub mod points;
 pub mod reading;
 pub mod solving;
+pub mod tuning;

@@ -1,9 +1,11 @@
 // The exports of `eml::deciding`.
 ghost use Rattle.std.specs.Prelude.{length};
-ghost use Rattle.settings.specs.Settings.{usual};
+ghost use Rattle.settings.specs.Settings.{tuned};
 ghost use Rattle.decide.specs.Deciding.{decide_forall_given, decide_exists_given};
 ghost use Rattle.record.specs.Views.{old};
 ghost use Rattle.eml.specs.Places.{Decides};
+
+use settings::Tuning;
 
 #[unsafe(no_mangle)]
 pub extern "C" fn eml_decide_forall(
@@ -13,11 +15,12 @@ pub extern "C" fn eml_decide_forall(
     lo: f64,
     hi: f64,
     num_vars: usize,
+    settings: Tuning,
     verdict: &mut u8,
     count: &mut usize,
     point: &mut [f64],
 ) -> u8
-    ensures { Decides verdict count point result (decide_forall_given usual nodes.now constraints.now var lo hi num_vars (length (old point))) }
+    ensures { Decides verdict count point result (decide_forall_given (tuned settings) nodes.now constraints.now var lo hi num_vars (length (old point))) }
 {
     eml::deciding::eml_decide_forall(
         nodes,
@@ -26,6 +29,7 @@ pub extern "C" fn eml_decide_forall(
         lo,
         hi,
         num_vars,
+        settings,
         verdict,
         count,
         point,
@@ -40,11 +44,12 @@ pub extern "C" fn eml_decide_exists(
     lo: f64,
     hi: f64,
     num_vars: usize,
+    settings: Tuning,
     verdict: &mut u8,
     count: &mut usize,
     point: &mut [f64],
 ) -> u8
-    ensures { Decides verdict count point result (decide_exists_given usual nodes.now constraints.now var lo hi num_vars (length (old point))) }
+    ensures { Decides verdict count point result (decide_exists_given (tuned settings) nodes.now constraints.now var lo hi num_vars (length (old point))) }
 {
     eml::deciding::eml_decide_exists(
         nodes,
@@ -53,6 +58,7 @@ pub extern "C" fn eml_decide_exists(
         lo,
         hi,
         num_vars,
+        settings,
         verdict,
         count,
         point,

@@ -11,3 +11,4 @@ mod normal_form;
 mod points;
 mod reading;
 mod solving;
+mod tuning;

@@ -1,15 +1,18 @@
 // The exports of `eml::solving`.
 ghost use Rattle.std.specs.Prelude.{length};
-ghost use Rattle.settings.specs.Settings.{usual};
+ghost use Rattle.settings.specs.Settings.{tuned};
 ghost use Rattle.nra.specs.Calls.{solve_file, solve_given};
 ghost use Rattle.record.specs.Views.{old};
 ghost use Rattle.eml.specs.Places.{Solves};
+
+use settings::Tuning;
 
 #[unsafe(no_mangle)]
 pub extern "C" fn eml_solve_file(
     file: &[u8],
     limit: usize,
     tolerance: f64,
+    settings: Tuning,
     stop: &mut u8,
     exact: &mut bool,
     residual: &mut f64,
@@ -17,10 +20,10 @@ pub extern "C" fn eml_solve_file(
     count: &mut usize,
     point: &mut [f64],
 ) -> u8
-    ensures { Solves stop exact residual halvings count point result (solve_file usual file.now limit tolerance (length (old point))) }
+    ensures { Solves stop exact residual halvings count point result (solve_file (tuned settings) file.now limit tolerance (length (old point))) }
 {
     eml::solving::eml_solve_file(
-        file, limit, tolerance, stop, exact, residual, halvings, count, point,
+        file, limit, tolerance, settings, stop, exact, residual, halvings, count, point,
     )
 }
 
@@ -32,6 +35,7 @@ pub extern "C" fn eml_solve(
     hi: &[f64],
     limit: usize,
     tolerance: f64,
+    settings: Tuning,
     stop: &mut u8,
     exact: &mut bool,
     residual: &mut f64,
@@ -39,7 +43,7 @@ pub extern "C" fn eml_solve(
     count: &mut usize,
     point: &mut [f64],
 ) -> u8
-    ensures { Solves stop exact residual halvings count point result (solve_given usual nodes.now constraints.now lo.now hi.now limit tolerance (length (old point))) }
+    ensures { Solves stop exact residual halvings count point result (solve_given (tuned settings) nodes.now constraints.now lo.now hi.now limit tolerance (length (old point))) }
 {
     eml::solving::eml_solve(
         nodes,
@@ -48,6 +52,7 @@ pub extern "C" fn eml_solve(
         hi,
         limit,
         tolerance,
+        settings,
         stop,
         exact,
         residual,

@@ -77,7 +77,7 @@ const TOLERANCE: f64 = 1e-8;
 fn print_answer<W: Write>(out: &mut W, file: &[u8]) -> io::Result<()>
     ensures { OnOk result (Appends (W.contents out.old) (W.contents out.new) (answer_lines (solve_file usual file.now 10_000 TOLERANCE 16))) }
 {
-    match nra::solve_file(file, 10_000, TOLERANCE, 16) {
+    match nra::solve_file(file, 10_000, TOLERANCE, settings::usual(), 16) {
         Ok(solved) => print_solved(out, solved),
         Err(refusal) => writeln!(out, "{refusal}"),
     }

@@ -1,4 +1,3 @@
 -- Laws that several proofs cite.
-mod Floats
 mod Points
 mod Loops

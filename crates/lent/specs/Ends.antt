@@ -1,7 +1,6 @@
 -- The call on two lists of ends and the call on the list of intervals answer alike, and leave the same boxes. Assumes nothing.
-use Rattle.std.specs.Prelude.{ℕ, ◌≡◌, Bool, List, Float, length}
+use Rattle.std.specs.Prelude.{ℕ, zero, suc, ◌≡◌, List, Float, length}
 use Rattle.std.proofs.Math.Path.{refl}
-use Rattle.std.proofs.Math.Bool.{true, false}
 use borrow.Author.Tests.{eq-eqb}
 use Rattle.settings.specs.declared.Settings.{Settings}
 use Rattle.interval.specs.declared.Interval.{Interval}
@@ -22,12 +21,12 @@ module _ (σ : Settings) (ys : List Interval) where
   unfolding are_boxes are_paired
   boxes_are = rw (lows_length ys, highs_length ys, of_ends ys, eq-eqb (length ys) (length ys) refl) refl
 
-  tested_apart : (r : Read) (t : Bool) → tested r t (ends ys) (λ c. answered ends (propagate σ c ys)) ≡ apart (tested r t ys (λ c. answered (λ x. x) (propagate σ c ys)))
+  tested_apart : (r : Read) (later : ℕ) → tested r later (ends ys) (λ c. answered ends (propagate σ c ys)) ≡ apart (tested r later ys (λ c. answered (λ x. x) (propagate σ c ys)))
   unfolding tested
-  tested_apart (Read.Refused n) t = refl
-  tested_apart (Read.Accepted c bounds) false = refl
-  tested_apart (Read.Accepted c bounds) true = refl
+  tested_apart (Read.Refused r) later = refl
+  tested_apart (Read.Accepted c bounds) zero = refl
+  tested_apart (Read.Accepted c bounds) (suc r) = refl
 
   pub given_lent : (nodes constraints : List ℕ) → propagate_given σ nodes constraints (lows ys) (highs ys) ≡ apart (propagate_lent σ nodes constraints ys)
   unfolding propagate_given propagate_lent
-  given_lent nodes constraints = rw (boxes_are, of_ends ys) (tested_apart (read_given nodes constraints) (is_domain ys))
+  given_lent nodes constraints = rw (boxes_are, of_ends ys) (tested_apart (read_given nodes constraints) _)

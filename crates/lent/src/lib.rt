@@ -2,7 +2,6 @@
 #![tactic(auto, using(narrow::specs::GivenLaws::refusals), unfolding(crate::specs::Lent::propagate_lent))]
 
 ghost use Rattle.std.specs.Prelude.{◌≡◌};
-ghost use Rattle.settings.specs.Settings.{usual};
 ghost use Rattle.record.specs.Leaving.{◌leaving◌};
 ghost use Rattle.record.specs.Refused.{numbered};
 ghost use Rattle.record.specs.Views.{old, final};
@@ -11,21 +10,24 @@ ghost use Rattle.lent.specs.Lent.{propagate_lent};
 use interval::Interval;
 use narrow::{Mode, PropResult, Propagator};
 use record::Refusal;
+use settings::Settings;
 
 // The tests in document 01's order, then `propagate` by the one constraint that the records leave. A refusal alters nothing.
 pub fn propagate(
     nodes: &[u8],
     constraints: &[u8],
+    settings: Settings,
     boxes: &mut [Interval],
 ) -> Result<PropResult, Refusal>
-    ensures { (numbered result leaving final boxes) ≡ propagate_lent usual nodes.now constraints.now (old boxes) }
+    ensures { (numbered result leaving final boxes) ≡ propagate_lent settings nodes.now constraints.now (old boxes) }
 {
     let records = file::read_given(nodes, constraints)?;
+    settings.test()?;
     if !interval::is_domain(boxes) {
         return Err(Refusal::Boxes);
     }
     let propagator = Propagator {
-        settings: settings::usual(),
+        settings,
         mode: Mode::Written,
     };
     Ok(propagator.propagate(records.constraint(), boxes))

@@ -12,7 +12,6 @@ use Rattle.std.proofs.Common.{append-nil}
 use Rattle.std.proofs.lemmas.List.{drop_all}
 use Rattle.std.proofs.lemmas.List.Edits.{paste_all}
 use Rattle.settings.specs.declared.Settings.{Settings}
-use Rattle.settings.specs.Settings.{usual}
 use Rattle.interval.specs.declared.Interval.{Interval}
 use Rattle.interval.specs.Boxes.{intervals, lows, highs, are_boxes}
 use Rattle.interval.specs.BoxLaws.{as_many, boxes_paired, lows_length, highs_length}
@@ -32,9 +31,9 @@ module _ (lo hi : List Float) (t : are_boxes lo hi ≡ true) where
   pub paired : length hi ≡ length lo
   paired = as_many lo hi (boxes_paired lo hi t)
 
-  pub answers : (c : Constraint) {σ : Settings} {w : PropResult} {is : List Interval} {lo' hi' : List Float} → σ ≡ usual → (w leaving is) ≡ propagate σ c (intervals lo hi)
-      → length is ≡ length lo → lo' ≡ paste lo 0 (lows is) (length is) → hi' ≡ paste hi 0 (highs is) (length is) → (Ok w leaving (lo', hi')) ≡ answered ends (propagate usual c (intervals lo hi))
-  answers c {w = w} {is = is} s h e p q =
-      rw (p, q, written lo (lows is) (length is) (sym e) (lows_length is), written hi (highs is) (length is) (paired ∙ sym e) (highs_length is), ← s, ← h) refl
+  pub answers : (c : Constraint) (σ : Settings) {w : PropResult} {is : List Interval} {lo' hi' : List Float} → (w leaving is) ≡ propagate σ c (intervals lo hi)
+      → length is ≡ length lo → lo' ≡ paste lo 0 (lows is) (length is) → hi' ≡ paste hi 0 (highs is) (length is) → (Ok w leaving (lo', hi')) ≡ answered ends (propagate σ c (intervals lo hi))
+  answers c σ {w = w} {is = is} h e p q =
+      rw (p, q, written lo (lows is) (length is) (sym e) (lows_length is), written hi (highs is) (length is) (paired ∙ sym e) (highs_length is), ← h) refl
 
 pub ruleset given = (refusals, none_unless, paired)

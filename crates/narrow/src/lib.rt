@@ -16,7 +16,6 @@ ghost use Rattle.narrow.specs.Narrowing.{propagate as propagate_of};
 ghost use Rattle.narrow.specs.Modes.{in_mode};
 ghost use Rattle.narrow.specs.Given.{propagate_given};
 ghost use Rattle.record.specs.Refused.{numbered};
-ghost use Rattle.settings.specs.Settings.{usual};
 
 pub use backward::backward_propagate;
 use constraint::EmlConstraint;
@@ -24,6 +23,7 @@ pub use forward::eval_interval;
 use interval::{Domain, Interval};
 use record::Refusal;
 pub use round::{Mode, Propagator};
+use settings::Settings;
 
 // What a step of narrowing did, the worst last.
 #[derive(Clone, Copy, PartialEq, Eq, PartialOrd, Ord)]
@@ -81,15 +81,17 @@ impl Propagator {
 pub fn propagate_given(
     nodes: &[u8],
     constraints: &[u8],
+    settings: Settings,
     lo: &mut [f64],
     hi: &mut [f64],
 ) -> Result<PropResult, Refusal>
-    ensures { (numbered result leaving (final lo, final hi)) ≡ propagate_given usual nodes.now constraints.now (old lo) (old hi) }
+    ensures { (numbered result leaving (final lo, final hi)) ≡ propagate_given settings nodes.now constraints.now (old lo) (old hi) }
 {
     let records = file::read_given(nodes, constraints)?;
+    settings.test()?;
     let mut domain = Domain::of_sound_ends(lo, hi)?;
     let propagator = Propagator {
-        settings: settings::usual(),
+        settings,
         mode: Mode::Written,
     };
     let result = propagator.narrow(records.constraint(), &mut domain);

@@ -3,7 +3,6 @@ use Rattle.std.specs.Prelude.{◌≡◌, ℕ, zero, suc, true, false, List, Floa
 use Rattle.std.specs.declared.ops.ControlFlow.{ControlFlow}
 use Rattle.std.specs.declared.ops.ControlFlow.TheVariants.{Break, Continue}
 use Rattle.number.specs.Notation.{+∞}
-use Rattle.settings.specs.Settings.{usual}
 use Rattle.settings.specs.declared.Settings.{Settings}
 use Rattle.record.specs.Refused.{number_of}
 use Rattle.record.specs.declared.refusal.Refusal.{Refusal}
@@ -28,10 +27,10 @@ problem c ε = record { constraint = c; tolerance = ε }
 abbrev pub asked : Task → Problem
 asked t = problem (the_constraint t.records) t.tolerance
 
--- it asks of c under that limit and tolerance, with the usual settings
-pub record Asks (c : Constraint) (most : ℕ) (ε : Float) (t : Task) : Type 0 where
+-- it asks of c under that limit and tolerance, with the settings σ
+pub record Asks (σ : Settings) (c : Constraint) (most : ℕ) (ε : Float) (t : Task) : Type 0 where
   pub constraint_is : the_constraint t.records ≡ c
-  pub settings_are : t.settings ≡ usual
+  pub settings_are : t.settings ≡ σ
   pub limit_is : t.limit ≡ most
   pub tolerance_is : t.tolerance ≡ ε
 

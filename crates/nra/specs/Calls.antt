@@ -1,8 +1,9 @@
--- The calls on a file and on records with bounds (document 01, "Refused"): the refusals in their order, then the answer.
+-- The calls on a file and on records with bounds (document 01, "Refused"; document 02 [8]): the refusals in their order, then the answer.
 -- σ are the settings, document 01's calls having `usual`; `room` is how many places there are for a point.
 use Rattle.std.specs.Prelude.{ℕ, not, ◌&&◌, List, leb, Float, Result, Ok, Err}
 use Rattle.std.specs.Float.Ieee.{is_nan}
 use Rattle.record.specs.Refusal.{◌or_else◌, ◌unless◌, refused_or}
+use Rattle.settings.specs.Settings.{settings_refusal}
 use Rattle.settings.specs.declared.Settings.{Settings}
 use Rattle.interval.specs.declared.Interval.{Interval}
 use Rattle.interval.specs.Boxes.{intervals, are_boxes}
@@ -14,6 +15,10 @@ use Rattle.nra.specs.Answers.{problem}
 -- 8: limit above 1,000,000 or NaN tolerance
 unfoldable pub limit_refusal : ℕ → Float → ℕ
 limit_refusal limit ε = 8 unless leb limit 1_000_000 && not (is_nan ε)
+
+-- 14, a parameter outside its range, before it
+unfoldable pub task_refusal : Settings → ℕ → Float → ℕ
+task_refusal σ limit ε = settings_refusal σ or_else limit_refusal limit ε
 
 -- 9: over 16 boxes, not as many lo as hi, or an unsound box
 unfoldable pub boxes_refusal : List Float → List Float → ℕ
@@ -33,8 +38,8 @@ answered_by (Accepted c bounds) later answer = refused_or (later c) Err (Ok (ans
 
 unfoldable pub solve_file : Settings → List ℕ → ℕ → Float → ℕ → Result Answer ℕ
 solve_file σ file limit ε room =
-    answered_by (read_file file) (λ c. limit_refusal limit ε or_else room_refusal c room) λ c bounds. solve σ (problem c ε) bounds limit
+    answered_by (read_file file) (λ c. task_refusal σ limit ε or_else room_refusal c room) λ c bounds. solve σ (problem c ε) bounds limit
 
 unfoldable pub solve_given : Settings → List ℕ → List ℕ → List Float → List Float → ℕ → Float → ℕ → Result Answer ℕ
 solve_given σ nodes b lo hi limit ε room =
-    answered_by (read_given nodes b) (λ c. limit_refusal limit ε or_else boxes_refusal lo hi or_else room_refusal c room) λ c none. solve σ (problem c ε) (intervals lo hi) limit
+    answered_by (read_given nodes b) (λ c. task_refusal σ limit ε or_else boxes_refusal lo hi or_else room_refusal c room) λ c none. solve σ (problem c ε) (intervals lo hi) limit

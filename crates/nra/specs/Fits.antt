@@ -13,7 +13,7 @@ use Rattle.file.specs.File.{Read, Refused, Accepted, read_file, read_given}
 use Rattle.narrow.specs.Lengths.{propagate_length}
 use Rattle.nra.specs.Solver.{Problem, Answer, assignment, failed, State, Progress, Stopped, Going, begin_checked, begin_narrowed, begin_in, begin_empty, begin_at, begin, halved, settle_checked, settle_narrowed, settle_in, halve, steps, finish, run, untried, solve}
 use Rattle.nra.specs.Answers.{problem}
-use Rattle.nra.specs.Calls.{limit_refusal, boxes_refusal, room_refusal, answered_by, solve_file, solve_given}
+use Rattle.nra.specs.Calls.{task_refusal, boxes_refusal, room_refusal, answered_by, solve_file, solve_given}
 
 abbrev pub point_of : Answer → List Float
 point_of (assignment m exact h) = m
@@ -112,10 +112,10 @@ module _ (room : ℕ) (answer : Constraint → List Interval → Answer) (few : 
 module _ (σ : Settings) (limit : ℕ) (ε : Float) (room : ℕ) where
   pub file_fits : (file : List ℕ) → Fits room (solve_file σ file limit ε room)
   unfolding solve_file
-  file_fits file = answered_fits room _ (λ c bs. solve_few σ (problem c ε) bs limit) (read_file file) _ (λ c e. room_enough c room (none_both (limit_refusal limit ε) _ e).1)
+  file_fits file = answered_fits room _ (λ c bs. solve_few σ (problem c ε) bs limit) (read_file file) _ (λ c e. room_enough c room (none_both (task_refusal σ limit ε) _ e).1)
 
   pub given_fits : (nodes b : List ℕ) (lo hi : List Float) → Fits room (solve_given σ nodes b lo hi limit ε room)
   unfolding solve_given
   given_fits nodes b lo hi =
       answered_fits room _ (λ c bs. solve_few σ (problem c ε) (intervals lo hi) limit) (read_given nodes b) _
-      (λ c e. room_enough c room (none_both (boxes_refusal lo hi) _ (none_both (limit_refusal limit ε) _ e).1).1)
+      (λ c e. room_enough c room (none_both (boxes_refusal lo hi) _ (none_both (task_refusal σ limit ε) _ e).1).1)

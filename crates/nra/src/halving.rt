@@ -25,19 +25,25 @@ impl<'a> Task<'a> {
     ghost use Rattle.constraint.specs.Views.{the_constraint};
     ghost use Rattle.point.specs.Check.{check};
     ghost use Rattle.nra.specs.Answers.{Asks};
-    ghost use Rattle.nra.specs.Calls.{limit_refusal};
+    ghost use Rattle.nra.specs.Calls.{task_refusal};
     ghost use Rattle.nra.specs.Solver.{distance_at, halved};
 
-    // 8 for a limit above 1,000,000 or a NaN tolerance.
-    #[tactic(auto, unfolding(crate::specs::Calls::limit_refusal))]
-    pub fn new(records: Records<'a>, limit: usize, tolerance: f64) -> Result<Task<'a>, Refusal>
-        ensures refusal { refusal_of result ≡ limit_refusal limit tolerance }
-        ensures task { IfOk result (Asks (the_constraint records.entry) limit tolerance) }
+    // 14 for the settings, then 8 for a limit above 1,000,000 or a NaN tolerance.
+    #[tactic(auto, unfolding(crate::specs::Calls::task_refusal, crate::specs::Calls::limit_refusal))]
+    pub fn new(
+        records: Records<'a>,
+        limit: usize,
+        tolerance: f64,
+        settings: Settings,
+    ) -> Result<Task<'a>, Refusal>
+        ensures refusal { refusal_of result ≡ task_refusal settings limit tolerance }
+        ensures task { IfOk result (Asks settings (the_constraint records.entry) limit tolerance) }
     {
+        settings.test()?;
         if (limit <= 1_000_000) & !tolerance.is_nan() {
             return Ok(Task {
                 records,
-                settings: settings::usual(),
+                settings,
                 limit,
                 tolerance,
             });

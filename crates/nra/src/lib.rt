@@ -6,7 +6,6 @@ pub mod halving; // one halving
 pub mod run; // many of them
 
 ghost use Rattle.std.specs.Prelude.{◌≡◌, []};
-ghost use Rattle.settings.specs.Settings.{usual};
 ghost use Rattle.interval.specs.Views.{intervals_of};
 ghost use Rattle.constraint.specs.Constraint.{num_vars};
 ghost use Rattle.constraint.specs.Views.{the_constraint};
@@ -22,6 +21,7 @@ use halving::Task;
 use interval::{Count, Domain, Point};
 use point::stack::Stack;
 use record::Refusal;
+use settings::Settings;
 
 // ---- an accepted problem
 
@@ -74,12 +74,18 @@ fn solve_task(task: &Task, bounds: &Domain, room: usize) -> Result<Solved, Refus
 
 // Solves a house file. `room` is how many places the caller has for the point.
 #[tactic(auto, using(file::specs::FileLaws::file_refused, record::specs::RefusalLaws::never_none, record::specs::RefusalLaws::refuses, record::specs::RefusalLaws::refuses_first), unfolding(crate::specs::Calls::solve_file))]
-pub fn solve_file(file: &[u8], limit: usize, tolerance: f64, room: usize) -> Result<Solved, Refusal>
-    ensures answer { answered result ≡ solve_file usual file.now limit tolerance room }
+pub fn solve_file(
+    file: &[u8],
+    limit: usize,
+    tolerance: f64,
+    settings: Settings,
+    room: usize,
+) -> Result<Solved, Refusal>
+    ensures answer { answered result ≡ solve_file settings file.now limit tolerance room }
     ensures fits { Fits room (answered result) }
 {
     let Problem { records, bounds } = file::read(file)?;
-    let task = Task::new(records, limit, tolerance)?;
+    let task = Task::new(records, limit, tolerance, settings)?;
     solve_task(&task, &bounds, room)
 }
 
@@ -92,13 +98,14 @@ pub fn solve(
     hi: &[f64],
     limit: usize,
     tolerance: f64,
+    settings: Settings,
     room: usize,
 ) -> Result<Solved, Refusal>
-    ensures answer { answered result ≡ solve_given usual nodes.now constraints.now lo.now hi.now limit tolerance room }
+    ensures answer { answered result ≡ solve_given settings nodes.now constraints.now lo.now hi.now limit tolerance room }
     ensures fits { Fits room (answered result) }
 {
     let records = file::read_given(nodes, constraints)?;
-    let task = Task::new(records, limit, tolerance)?;
+    let task = Task::new(records, limit, tolerance, settings)?;
     let bounds = Domain::of_sound_ends(lo, hi)?;
     solve_task(&task, &bounds, room)
 }

@@ -15,7 +15,7 @@ use Rattle.file.specs.FileLaws.{bound_sound, read_is, given_is}
 use Rattle.narrow.specs.Held.{constraint_held}
 use Rattle.nra.specs.Solver.{Problem, Answer, solve}
 use Rattle.nra.specs.Answers.{problem}
-use Rattle.nra.specs.Calls.{limit_refusal, boxes_refusal, room_refusal, answered_by, solve_file, solve_given}
+use Rattle.nra.specs.Calls.{task_refusal, boxes_refusal, room_refusal, answered_by, solve_file, solve_given}
 use Rattle.eml.specs.Answers.{number_of}
 use Rattle.promises.specs.Assignments.{Fair}
 
@@ -60,9 +60,9 @@ abbrev pub file_bounds : List ℕ → List Interval
 file_bounds file = bounds (bounds_of file) (bound_count file)
 
 module _ (σ : Settings) (file : List ℕ) (ε : Float) (L room : ℕ) {x : Answer} (taken : solve_file σ file L ε room ≡ Ok x) where
-  file_accepted : (refusal file ≡ 0) × (limit_refusal L ε or_else room_refusal (file_problem file ε).constraint room ≡ 0)
+  file_accepted : (refusal file ≡ 0) × (task_refusal σ L ε or_else room_refusal (file_problem file ε).constraint room ≡ 0)
   unfolding solve_file read_file file_problem
-  file_accepted = accepted (refusal file) _ _ (λ c. limit_refusal L ε or_else room_refusal c room) _ x taken
+  file_accepted = accepted (refusal file) _ _ (λ c. task_refusal σ L ε or_else room_refusal c room) _ x taken
 
   is_solved : solve_file σ file L ε room ≡ Ok (solve σ (file_problem file ε) (file_bounds file) L)
   unfolding solve_file file_problem
@@ -77,16 +77,16 @@ module _ (σ : Settings) (file : List ℕ) (ε : Float) (L room : ℕ) {x : Answ
 
 pub file_taken : (σ : Settings) (file : List ℕ) (ε : Float) (L room : ℕ) → number_of (solve_file σ file L ε room) ≡ 0 → solve_file σ file L ε room ≡ Ok (solve σ (file_problem file ε) (file_bounds file) L)
 unfolding solve_file read_file file_problem
-file_taken σ file ε L room e = not_refused (refusal file) _ _ (λ c. limit_refusal L ε or_else room_refusal c room) _ e
+file_taken σ file ε L room e = not_refused (refusal file) _ _ (λ c. task_refusal σ L ε or_else room_refusal c room) _ e
 
 -- ---- the call on records with bounds
 unfoldable pub given_problem : List ℕ → List ℕ → Float → Problem
 given_problem nodes b ε = problem (left nodes b (length b / 24)) ε
 
 module _ (σ : Settings) (nodes b : List ℕ) (lo hi : List Float) (ε : Float) (L room : ℕ) {x : Answer} (taken : solve_given σ nodes b lo hi L ε room ≡ Ok x) where
-  given_accepted : (given_refusal nodes b ≡ 0) × (limit_refusal L ε or_else boxes_refusal lo hi or_else room_refusal (given_problem nodes b ε).constraint room ≡ 0)
+  given_accepted : (given_refusal nodes b ≡ 0) × (task_refusal σ L ε or_else boxes_refusal lo hi or_else room_refusal (given_problem nodes b ε).constraint room ≡ 0)
   unfolding solve_given read_given given_problem
-  given_accepted = accepted (given_refusal nodes b) _ _ (λ c. limit_refusal L ε or_else boxes_refusal lo hi or_else room_refusal c room) _ x taken
+  given_accepted = accepted (given_refusal nodes b) _ _ (λ c. task_refusal σ L ε or_else boxes_refusal lo hi or_else room_refusal c room) _ x taken
 
   given_solved : solve_given σ nodes b lo hi L ε room ≡ Ok (solve σ (given_problem nodes b ε) (intervals lo hi) L)
   unfolding solve_given given_problem
@@ -97,7 +97,7 @@ module _ (σ : Settings) (nodes b : List ℕ) (lo hi : List Float) (ε : Float) 
 
   boxes_accepted : are_boxes lo hi ≡ true
   unfolding boxes_refusal
-  boxes_accepted = none_unless 8 (are_boxes lo hi) (none_both (boxes_refusal lo hi) _ (none_both (limit_refusal L ε) _ given_accepted.1).1).0
+  boxes_accepted = none_unless 8 (are_boxes lo hi) (none_both (boxes_refusal lo hi) _ (none_both (task_refusal σ L ε) _ given_accepted.1).1).0
 
   pub given_fair : Fair (given_problem nodes b ε) (intervals lo hi)
   unfolding given_problem
@@ -105,4 +105,4 @@ module _ (σ : Settings) (nodes b : List ℕ) (lo hi : List Float) (ε : Float) 
 
 pub given_taken : (σ : Settings) (nodes b : List ℕ) (lo hi : List Float) (ε : Float) (L room : ℕ) → number_of (solve_given σ nodes b lo hi L ε room) ≡ 0 → solve_given σ nodes b lo hi L ε room ≡ Ok (solve σ (given_problem nodes b ε) (intervals lo hi) L)
 unfolding solve_given read_given given_problem
-given_taken σ nodes b lo hi ε L room e = not_refused (given_refusal nodes b) _ _ (λ c. limit_refusal L ε or_else boxes_refusal lo hi or_else room_refusal c room) _ e
+given_taken σ nodes b lo hi ε L room e = not_refused (given_refusal nodes b) _ _ (λ c. task_refusal σ L ε or_else boxes_refusal lo hi or_else room_refusal c room) _ e

@@ -8,11 +8,12 @@ use Rattle.std.specs.Prelude.{◌≡◌, Bool, List, [], Float, length, Result, 
 use Rattle.std.proofs.Math.Path.{refl}
 use Rattle.std.proofs.Common.{sym}
 use Rattle.std.proofs.Math.Bool.{true, false}
+use Rattle.settings.specs.Settings.{settings_refusal}
 use Rattle.settings.specs.declared.Settings.{Settings}
 use Rattle.record.specs.Leaving.{Leaving, ◌leaving◌, same_answer, same_places}
 use Rattle.record.specs.Refusal.{◌or_else◌, ◌unless◌, refused_or}
 use Rattle.interval.specs.declared.Interval.{Interval}
-use Rattle.interval.specs.Boxes.{are_paired, are_boxes, is_domain}
+use Rattle.interval.specs.Boxes.{are_paired, is_domain}
 use Rattle.interval.specs.Domain.{domain_refusal, domain_new, domain_is_empty}
 use Rattle.tree.specs.Canonical.{ln, sub, ln_refusal, sub_refusal}
 use Rattle.constraint.specs.declared.Relation.{Relation}
@@ -29,7 +30,7 @@ use Rattle.narrow.specs.declared.PropResult.{PropResult}
 use Rattle.narrow.specs.Given.{tested, propagate_given}
 use Rattle.lent.specs.Lent.{propagate_lent}
 use Rattle.nra.specs.Solver.{Answer as Reached}
-use Rattle.nra.specs.Calls.{limit_refusal, boxes_refusal, room_refusal, answered_by, solve_file, solve_given}
+use Rattle.nra.specs.Calls.{task_refusal, boxes_refusal, room_refusal, answered_by, solve_file, solve_given}
 use Rattle.decide.specs.Deciding.{QuantResult, later_refusal, decided_by, decide_forall_given, decide_exists_given}
 use Rattle.eml.specs.Answers.{number_of, placed, writing, appended, Evaluation, evaluated, propagated}
 use Rattle.eml.specs.Places.{Solution, solved, Decision, decided}
@@ -72,21 +73,21 @@ unfolding compared
 compare_refuses rel nodes n x y out = refuses appended (nodes, out) (λ r. Err r leaving (nodes, out)) _ (λ r. refl) refl (compare_refusal nodes n x y out)
 
 -- ---- eml_eval_real, eml_check and eml_residual
-pub eval_refuses : (σ : Settings) (nodes : List ℕ) (k : ℕ) (p : List Float) (old : Evaluation) → Refuses (eval_refusal nodes k p) old (evaluated (eval_answer σ nodes k p) old)
+pub eval_refuses : (σ : Settings) (nodes : List ℕ) (k : ℕ) (p : List Float) (old : Evaluation) → Refuses (eval_refusal σ nodes k p) old (evaluated (eval_answer σ nodes k p) old)
 unfolding eval_answer
-eval_refuses σ nodes k p old = refuses (λ x. evaluated x old) old Err _ (λ r. refl) (none (eval_real σ p (tree_at nodes k))) (eval_refusal nodes k p)
+eval_refuses σ nodes k p old = refuses (λ x. evaluated x old) old Err _ (λ r. refl) (none (eval_real σ p (tree_at nodes k))) (eval_refusal σ nodes k p)
   where
     none : (e : Result Float EvalError) → (evaluated (Ok e) old).answer ≡ 0
     none (Ok v) = refl
     none (Err e) = refl
 
-pub check_refuses : (σ : Settings) (nodes b : List ℕ) (p : List Float) (old : Bool) → Refuses (point_refusal nodes b p) old (placed (check_answer σ nodes b p) old)
+pub check_refuses : (σ : Settings) (nodes b : List ℕ) (p : List Float) (old : Bool) → Refuses (point_refusal σ nodes b p) old (placed (check_answer σ nodes b p) old)
 unfolding check_answer
-check_refuses σ nodes b p old = refuses (λ x. placed x old) old Err _ (λ r. refl) refl (point_refusal nodes b p)
+check_refuses σ nodes b p old = refuses (λ x. placed x old) old Err _ (λ r. refl) refl (point_refusal σ nodes b p)
 
-pub residual_refuses : (σ : Settings) (nodes b : List ℕ) (p : List Float) (old : Float) → Refuses (point_refusal nodes b p) old (placed (residual_answer σ nodes b p) old)
+pub residual_refuses : (σ : Settings) (nodes b : List ℕ) (p : List Float) (old : Float) → Refuses (point_refusal σ nodes b p) old (placed (residual_answer σ nodes b p) old)
 unfolding residual_answer
-residual_refuses σ nodes b p old = refuses (λ x. placed x old) old Err _ (λ r. refl) refl (point_refusal nodes b p)
+residual_refuses σ nodes b p old = refuses (λ x. placed x old) old Err _ (λ r. refl) refl (point_refusal σ nodes b p)
 
 -- ---- eml_to_nnf
 pub nnf_refuses : (nodes b out : List ℕ) (old : ℕ) → Refuses (nnf_refusal nodes b out) (old, out) (writing placed (to_nnf_given nodes b out) old)
@@ -95,22 +96,21 @@ nnf_refuses nodes b out old = refuses (λ x. writing placed x old) (old, out) (�
 
 -- ---- eml_propagate and eml_propagate_intervals
 module _ {B : Type 0} (b : B) (answer : Constraint → PropResult) (left : Constraint → B) (old : ℕ) where
-  propagate_refuses : (r : ℕ) (c : Constraint) (are : Bool)
-      → Refuses (r or_else 9 unless are) (old, b) (writing propagated (tested (read_by r (Accepted c [])) are b (λ c. Ok (answer c) leaving left c)) old)
+  propagate_refuses : (r later : ℕ) (c : Constraint) → Refuses (r or_else later) (old, b) (writing propagated (tested (read_by r (Accepted c [])) later b (λ c. Ok (answer c) leaving left c)) old)
   unfolding tested
-  propagate_refuses zero c false = record { number = refl; unaltered = λ n. refl }
-  propagate_refuses zero c true = record { number = refl; unaltered = λ n. absurd (n refl) }
-  propagate_refuses (suc r) c are = record { number = refl; unaltered = λ n. refl }
+  propagate_refuses zero zero c = record { number = refl; unaltered = λ n. absurd (n refl) }
+  propagate_refuses zero (suc n) c = record { number = refl; unaltered = λ k. refl }
+  propagate_refuses (suc r) later c = record { number = refl; unaltered = λ n. refl }
 
 pub ends_refuse : (σ : Settings) (nodes b : List ℕ) (lo hi : List Float) (old : ℕ)
-    → Refuses (given_refusal nodes b or_else boxes_refusal lo hi) (old, (lo, hi)) (writing propagated (propagate_given σ nodes b lo hi) old)
+    → Refuses (given_refusal nodes b or_else settings_refusal σ or_else boxes_refusal lo hi) (old, (lo, hi)) (writing propagated (propagate_given σ nodes b lo hi) old)
 unfolding propagate_given read_given boxes_refusal
-ends_refuse σ nodes b lo hi old = propagate_refuses (lo, hi) _ _ old (given_refusal nodes b) _ (are_boxes lo hi)
+ends_refuse σ nodes b lo hi old = propagate_refuses (lo, hi) _ _ old (given_refusal nodes b) _ _
 
 pub intervals_refuse : (σ : Settings) (nodes constraints : List ℕ) (b : List Interval) (old : ℕ)
-    → Refuses (given_refusal nodes constraints or_else 9 unless is_domain b) (old, b) (writing propagated (propagate_lent σ nodes constraints b) old)
+    → Refuses (given_refusal nodes constraints or_else settings_refusal σ or_else 9 unless is_domain b) (old, b) (writing propagated (propagate_lent σ nodes constraints b) old)
 unfolding propagate_lent read_given
-intervals_refuse σ nodes constraints b old = propagate_refuses b _ _ old (given_refusal nodes constraints) _ (is_domain b)
+intervals_refuse σ nodes constraints b old = propagate_refuses b _ _ old (given_refusal nodes constraints) _ _
 
 -- ---- eml_solve_file and eml_solve
 refused_number : {A : Type 0} (m : ℕ) (a : A) → number_of (refused_or m Err (Ok a)) ≡ m
@@ -127,13 +127,13 @@ solver_refuses (Ok a) old r e = record { number = e; unaltered = λ n. absurd (n
 solver_refuses (Err n) old r e = record { number = e; unaltered = λ n. refl }
 
 pub solve_file_refuses : (σ : Settings) (file : List ℕ) (limit : ℕ) (ε : Float) (old : Solution)
-    → let room = length old.point in Refuses (refusal file or_else limit_refusal limit ε or_else room_refusal (file_problem file ε).constraint room) old (solved (solve_file σ file limit ε room) old)
+    → let room = length old.point in Refuses (refusal file or_else task_refusal σ limit ε or_else room_refusal (file_problem file ε).constraint room) old (solved (solve_file σ file limit ε room) old)
 unfolding solve_file read_file file_problem
 solve_file_refuses σ file limit ε old = solver_refuses (solve_file σ file limit ε (length old.point)) old _ (solver_refusal (refusal file) _ _ _ _)
 
 pub solve_refuses : (σ : Settings) (nodes b : List ℕ) (lo hi : List Float) (limit : ℕ) (ε : Float) (old : Solution)
     → let room = length old.point in
-    Refuses (given_refusal nodes b or_else limit_refusal limit ε or_else boxes_refusal lo hi or_else room_refusal (given_problem nodes b ε).constraint room) old
+    Refuses (given_refusal nodes b or_else task_refusal σ limit ε or_else boxes_refusal lo hi or_else room_refusal (given_problem nodes b ε).constraint room) old
     (solved (solve_given σ nodes b lo hi limit ε room) old)
 unfolding solve_given read_given given_problem
 solve_refuses σ nodes b lo hi limit ε old = solver_refuses (solve_given σ nodes b lo hi limit ε (length old.point)) old _ (solver_refusal (given_refusal nodes b) _ _ _ _)
@@ -148,11 +148,11 @@ decider_refuses (Ok q) old r e = record { number = e; unaltered = λ n. absurd (
 decider_refuses (Err n) old r e = record { number = e; unaltered = λ n. refl }
 
 module _ (σ : Settings) (nodes b : List ℕ) (v : ℕ) (lo hi : Float) (n : ℕ) (old : Decision) where
-  pub forall_refuses : let room = length old.point in Refuses (given_refusal nodes b or_else later_refusal lo hi n room) old (decided (decide_forall_given σ nodes b v lo hi n room) old)
+  pub forall_refuses : let room = length old.point in Refuses (given_refusal nodes b or_else later_refusal σ lo hi n room) old (decided (decide_forall_given σ nodes b v lo hi n room) old)
   unfolding decide_forall_given read_given
   forall_refuses = decider_refuses (decide_forall_given σ nodes b v lo hi n (length old.point)) old _ (decider_refusal (given_refusal nodes b) _ _ _)
 
-  pub exists_refuses : let room = length old.point in Refuses (given_refusal nodes b or_else later_refusal lo hi n room) old (decided (decide_exists_given σ nodes b v lo hi n room) old)
+  pub exists_refuses : let room = length old.point in Refuses (given_refusal nodes b or_else later_refusal σ lo hi n room) old (decided (decide_exists_given σ nodes b v lo hi n room) old)
   unfolding decide_exists_given read_given
   exists_refuses = decider_refuses (decide_exists_given σ nodes b v lo hi n (length old.point)) old _ (decider_refusal (given_refusal nodes b) _ _ _)
 

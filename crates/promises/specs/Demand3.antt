@@ -4,7 +4,9 @@ use Rattle.std.specs.Prelude.{◌≡◌, refl, ℕ, ◌≤◌, ◌<◌, Bool, tr
 use Rattle.std.proofs.Common.{sym, ap, ◌∙◌, subst, leb-true, leb-false}
 use Rattle.std.proofs.lemmas.Bool.{false≢true}
 use Rattle.number.specs.Order.{passed}
-use Rattle.record.specs.RefusalLaws.{both}
+use Rattle.record.specs.Refusal.{◌or_else◌, ◌unless◌}
+use Rattle.record.specs.RefusalLaws.{both, none_both, none_unless}
+use Rattle.settings.specs.Settings.{settings_refusal}
 use Rattle.settings.specs.declared.Settings.{Settings}
 use Rattle.interval.specs.declared.Interval.{Interval}
 use Rattle.interval.specs.Inside.{Sound, Each, EachInside, boxes_sound}
@@ -74,11 +76,12 @@ pub given_keeps : (σ : Settings) (nodes constraints : List ℕ) (lo hi : List F
 unfolding propagate_given
 given_keeps σ nodes constraints lo hi =
     let b = intervals lo hi in
-    tested_keeps boxes_in nodes constraints (lo, hi) (λ c. answered ends (propagate σ c b)) (are_boxes lo hi) (λ c h t.
-    subst (λ (r : List Interval). EachInside b r × Each Sound r) (sym (of_ends (propagate σ c b).places)) (propagate_keeps σ c b h (given_sound lo hi t)))
+    tested_keeps boxes_in nodes constraints (lo, hi) (λ c. answered ends (propagate σ c b)) (settings_refusal σ or_else 9 unless are_boxes lo hi) (λ c h t.
+    subst (λ (r : List Interval). EachInside b r × Each Sound r) (sym (of_ends (propagate σ c b).places))
+    (propagate_keeps σ c b h (given_sound lo hi (none_unless 8 _ (none_both (settings_refusal σ) _ t).1))))
 
 pub lent_keeps : (σ : Settings) (nodes constraints : List ℕ) (b : List Interval) → Keeps (λ x. x) b (propagate_lent σ nodes constraints b)
 unfolding propagate_lent
 lent_keeps σ nodes constraints b =
-    tested_keeps (λ x. x) nodes constraints b (λ c. answered (λ x. x) (propagate σ c b)) (is_domain b) (λ c h t.
-    propagate_keeps σ c b h (boxes_sound b (passed (both (leb (length b) 16) (all_sound b) t).1)))
+    tested_keeps (λ x. x) nodes constraints b (λ c. answered (λ x. x) (propagate σ c b)) (settings_refusal σ or_else 9 unless is_domain b) (λ c h t.
+    propagate_keeps σ c b h (boxes_sound b (passed (both (leb (length b) 16) (all_sound b) (none_unless 8 _ (none_both (settings_refusal σ) _ t).1)).1)))

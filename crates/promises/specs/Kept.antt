@@ -1,9 +1,8 @@
 -- What a call that narrows keeps: after an answer each interval lies inside the one that was there, and is sound; after a refusal the places are what they
 -- were. Assumes nothing.
-use Rattle.std.specs.Prelude.{◌≡◌, Bool, List, [], Float, Result}
+use Rattle.std.specs.Prelude.{◌≡◌, List, [], Float, Result}
 use Rattle.std.proofs.Math.Path.{refl}
 use Prim.Native.Nat.{ℕ, zero, suc}
-use Rattle.std.proofs.Math.Bool.{true, false}
 use Rattle.interval.specs.declared.Interval.{Interval}
 use Rattle.interval.specs.Inside.{Sound, Each, EachInside}
 use Rattle.interval.specs.Boxes.{intervals}
@@ -28,12 +27,12 @@ abbrev pub boxes_in : List Float × List Float → List Interval
 boxes_in e = intervals e.0 e.1
 
 module _ {B : Type 0} (boxes : B → List Interval) (nodes constraints : List ℕ) (b : B) (next : Constraint → Leaving (Result PropResult ℕ) B) where
-  read_keeps : (t : Bool) (r : ℕ) (c : Constraint) → ConstraintHeld c → ((c : Constraint) → ConstraintHeld c → t ≡ true → Keeps boxes b (next c)) → Keeps boxes b (tested (read_by r (Read.Accepted c [])) t b next)
+  read_keeps : (later r : ℕ) (c : Constraint) → ConstraintHeld c → ((c : Constraint) → ConstraintHeld c → later ≡ 0 → Keeps boxes b (next c)) → Keeps boxes b (tested (read_by r (Read.Accepted c [])) later b next)
   unfolding tested
-  read_keeps false zero c h f = refl
-  read_keeps true zero c h f = f c h refl
-  read_keeps t (suc r) c h f = refl
+  read_keeps (suc n) zero c h f = refl
+  read_keeps zero zero c h f = f c h refl
+  read_keeps later (suc r) c h f = refl
 
-  pub tested_keeps : (t : Bool) → ((c : Constraint) → ConstraintHeld c → t ≡ true → Keeps boxes b (next c)) → Keeps boxes b (tested (read_given nodes constraints) t b next)
+  pub tested_keeps : (later : ℕ) → ((c : Constraint) → ConstraintHeld c → later ≡ 0 → Keeps boxes b (next c)) → Keeps boxes b (tested (read_given nodes constraints) later b next)
   unfolding read_given
-  tested_keeps t f = read_keeps t (given_refusal nodes constraints) _ (constraint_held nodes constraints _) f
+  tested_keeps later f = read_keeps later (given_refusal nodes constraints) _ (constraint_held nodes constraints _) f

@@ -1,4 +1,4 @@
--- Refusals are document 01's numbers; 0 stands for no refusal.
+-- Refusals are the documents' numbers; 0 stands for no refusal.
 use Rattle.std.specs.Prelude.{ℕ, zero, suc, Bool, true, false}
 
 infixr 20 ◌or_else◌

@@ -83,6 +83,7 @@ never_none Refusal.Shape e = absurd (omega arith)
 never_none Refusal.Limit e = absurd (omega arith)
 never_none Refusal.Boxes e = absurd (omega arith)
 never_none Refusal.Room e = absurd (omega arith)
+never_none Refusal.Parameter e = absurd (omega arith)
 
 -- a test that refuses: so does what begins with it, with the same number
 module _ (r : Refusal) {a : ℕ} (e : number_of r ≡ a) where

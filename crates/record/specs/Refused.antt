@@ -1,4 +1,4 @@
--- Document 01's numbers of the refusals, and what a call answers with them.
+-- The documents' numbers of the refusals, and what a call answers with them.
 use Rattle.std.specs.Prelude.{ℕ, List, ◌++◌, Result, Ok, Err}
 use Rattle.std.specs.Fmt.{decimal}
 use Rattle.std.specs.Prelude.{codes}
@@ -15,6 +15,7 @@ number_of Refusal.Shape = 7
 number_of Refusal.Limit = 8
 number_of Refusal.Boxes = 9
 number_of Refusal.Room = 10
+number_of Refusal.Parameter = 14
 
 -- as the printing program writes it
 abbrev pub text_of : Refusal → List ℕ

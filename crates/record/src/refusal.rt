@@ -5,7 +5,7 @@ ghost use Rattle.record.specs.Refused.{number_of, text_of};
 use std::error::Error;
 use std::fmt;
 
-// In the order of document 01's numbers, 1 to 10.
+// Document 01's, 1 to 10, and document 02's.
 #[derive(Clone, Copy, Debug, PartialEq, Eq)]
 pub enum Refusal {
     // under 32 bytes, or wrong first eight
@@ -28,6 +28,8 @@ pub enum Refusal {
     Boxes,
     // too short a slice or list to write to
     Room,
+    // a parameter of the settings outside its range
+    Parameter = 14,
 }
 
 impl From<Refusal> for u8 {

@@ -1,7 +1,26 @@
--- The settings that document 01's calls have: at most 20 rounds, 1e-8, 1e-12, ±709, and no strict evaluation.
-use Rattle.std.specs.Prelude.{◌^◌, false}
-use Rattle.number.specs.Notation.{whole, decimal}
+-- Document 02 [8]: the record of numbers that every call using them receives.
+use Rattle.std.specs.Prelude.{ℕ, ◌^◌, Bool, ◌&&◌, leb, Float, false}
+use Rattle.std.specs.Float.Ieee.Scale.{finite}
+use Rattle.number.specs.Notation.{◌≺◌, ◌≼◌, whole, decimal}
+use Rattle.record.specs.Refusal.{◌unless◌}
 use Rattle.settings.specs.declared.Settings.{Settings}
+use Rattle.settings.specs.declared.Tuning.{Tuning}
 
+-- document 01's numbers: at most 20 rounds, 1e-8, 1e-12, ±709, and no strict evaluation
 unfoldable pub usual : Settings
 usual = record { rounds = 20; equality = decimal 1 (10 ^ 8); slack = decimal 1 (10 ^ 12); clamp = whole 709; strict = false }
+
+-- "Rounds are 1 to 100, 0 < slack < equality tolerance, both finite, and the clamp is 1 to 709."
+unfoldable pub in_range : Settings → Bool
+in_range σ =
+    (leb 1 σ.rounds && leb σ.rounds 100)
+    && ((whole 0 ≺ σ.slack) && (σ.slack ≺ σ.equality) && (finite σ.slack && finite σ.equality))
+    && ((whole 1 ≼ σ.clamp) && (σ.clamp ≼ whole 709))
+
+-- "14, a parameter outside its range"
+unfoldable pub settings_refusal : Settings → ℕ
+settings_refusal σ = 14 unless in_range σ
+
+-- the settings with a caller's numbers
+abbrev pub tuned : Tuning → Settings
+tuned t = record { rounds = t.rounds; equality = t.equality; slack = t.slack; clamp = t.clamp; strict = false }

@@ -1,8 +1,11 @@
-// The numbers of document 01 that a caller may want to tune, in one record that every function using them receives.
+// The numbers of document 01 that a caller may tune (document 02 [8]), in one record that every function using them receives.
 #![tactic(auto, unfolding(crate::specs::Settings::usual, number::specs::Computing::computing))]
 
 ghost use Rattle.std.specs.Prelude.{◌≡◌};
-ghost use Rattle.settings.specs.Settings as Document;
+ghost use Rattle.record.specs.Refused.{refusal_of};
+ghost use Rattle.settings.specs.Settings.{usual as usual_settings, settings_refusal, tuned};
+
+use record::Refusal;
 
 #[derive(Clone, Copy)]
 pub struct Settings {
@@ -18,15 +21,64 @@ pub struct Settings {
     pub strict: bool,
 }
 
+impl Settings {
+    // 14 for a parameter outside its range, as a NaN always is. `&` has no branch, so the test is the definition's.
+    #[tactic(auto, using(number::specs::Sound::finite_test), unfolding(crate::specs::Settings::in_range, crate::specs::Settings::settings_refusal, number::specs::Computing::computing))]
+    pub fn test(self) -> Result<(), Refusal>
+        ensures { refusal_of result ≡ settings_refusal self }
+    {
+        let rounds = (1 <= self.rounds) & (self.rounds <= 100);
+        let ordered = (0.0 < self.slack) & (self.slack < self.equality);
+        let finite = self.slack.is_finite() & self.equality.is_finite();
+        let clamp = (1.0 <= self.clamp) & (self.clamp <= 709.0);
+        if rounds & (ordered & finite) & clamp {
+            return Ok(());
+        }
+        Err(Refusal::Parameter)
+    }
+}
+
+// What a caller sets: the numbers alone.
+#[repr(C)]
+#[derive(Clone, Copy)]
+pub struct Tuning {
+    pub rounds: usize,
+    pub equality: f64,
+    pub slack: f64,
+    pub clamp: f64,
+}
+
+impl Tuning {
+    // Document 01's own.
+    pub fn usual() -> Self
+        ensures { tuned result ≡ usual_settings }
+    {
+        Self {
+            rounds: 20,
+            equality: 1e-8,
+            slack: 1e-12,
+            clamp: 709.0,
+        }
+    }
+}
+
+impl From<Tuning> for Settings {
+    ghost from_gives = { λ t s. s ≡ tuned t };
+
+    fn from(t: Tuning) -> Settings {
+        Settings {
+            rounds: t.rounds,
+            equality: t.equality,
+            slack: t.slack,
+            clamp: t.clamp,
+            strict: false,
+        }
+    }
+}
+
 // Document 01's own.
 pub fn usual() -> Settings
-    ensures { result ≡ Document.usual }
+    ensures { result ≡ usual_settings }
 {
-    Settings {
-        rounds: 20,
-        equality: 1e-8,
-        slack: 1e-12,
-        clamp: 709.0,
-        strict: false,
-    }
+    Tuning::usual().into()
 }

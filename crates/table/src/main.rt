@@ -46,7 +46,8 @@ fn is_same(solved: &Solved, head: &[u8; 176]) -> bool {
 fn replays<R: Read>(reader: &mut R, file: &mut [u8], head: &[u8; 176]) -> bool {
     let (got, _) = input::read_full(reader, file);
     let limit = record::read_u64(head, 8) as usize;
-    match nra::solve_file(&file[..got], limit, record::read_f64(head, 16), 16) {
+    let tolerance = record::read_f64(head, 16);
+    match nra::solve_file(&file[..got], limit, tolerance, settings::usual(), 16) {
         Ok(solved) => is_same(&solved, head),
         Err(refusal) => {
             let stop = (head[6] == nra::Stop::Unsatisfied as u8) & (head[7] == 0);
@@ -131,7 +132,13 @@ fn narrowed<const N: usize>() -> Result<PropResult, Refusal>
     node[0] = 2;
     let mut record = [0u8; 24];
     record[0] = 1;
-    narrow::propagate_given(&node, &record, &mut [1.0; N], &mut [3.0; N])
+    narrow::propagate_given(
+        &node,
+        &record,
+        settings::usual(),
+        &mut [1.0; N],
+        &mut [3.0; N],
+    )
 }
 
 fn main(rt: HostRuntime) -> io::Result<()> {
