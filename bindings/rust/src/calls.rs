@@ -5,13 +5,14 @@
 //!
 //! # Errors
 //!
-//! Records are tested first, 2 to 7; then 8, 9 and 10 as far as a call has them. `eml.h` names those of each call.
+//! Records are tested first, 2 to 7; then settings, 14; then 8, 9 and 10 as far as a call has them. `eml.h` names those of
+//! each call.
 
 #![allow(unsafe_code)]
 #![deny(clippy::undocumented_unsafe_blocks)]
 
 use crate::raw;
-use crate::{Interval, Records, Refusal};
+use crate::{Interval, Records, Refusal, Settings};
 
 // What holds of every call below: a pointer and its length are those of one slice, which lives and, where it is written, is lent
 // to nobody else until the call returns. The library takes every content, reads and writes within the slices and the places
@@ -144,6 +145,17 @@ comparison!(
     eml_ge
 );
 
+/// Document 01's numbers.
+#[must_use]
+pub fn usual_settings() -> Settings {
+    raw::eml_usual_settings()
+}
+
+/// Tests settings: 14, or taken.
+pub fn test_settings(settings: Settings) -> Result<(), Refusal> {
+    Refusal::unless_zero(raw::eml_test_settings(settings))
+}
+
 /// Where [`eval_real`] writes. A place that the answer has nothing for stays.
 #[derive(Clone, Copy, Debug, Default, PartialEq)]
 pub struct EvalPlaces {
@@ -162,6 +174,7 @@ pub fn eval_real(
     nodes: &[u8],
     node: usize,
     point: &[f64],
+    settings: Settings,
     to: &mut EvalPlaces,
 ) -> Result<(), Refusal> {
     // SAFETY: slices that are read, and places of numbers.
@@ -172,6 +185,7 @@ pub fn eval_real(
             node,
             point.as_ptr(),
             point.len(),
+            settings,
             &mut to.kind,
             &mut to.value,
             &mut to.index,
@@ -181,7 +195,12 @@ pub fn eval_real(
 }
 
 /// Whether a point passes the check.
-pub fn check(records: Records<'_>, point: &[f64], passes: &mut bool) -> Result<(), Refusal> {
+pub fn check(
+    records: Records<'_>,
+    point: &[f64],
+    settings: Settings,
+    passes: &mut bool,
+) -> Result<(), Refusal> {
     let Records { nodes, constraints } = records;
     // SAFETY: slices that are read, and a place of a bool, which is written 0 or 1 only.
     Refusal::unless_zero(unsafe {
@@ -192,13 +211,19 @@ pub fn check(records: Records<'_>, point: &[f64], passes: &mut bool) -> Result<(
             constraints.len(),
             point.as_ptr(),
             point.len(),
+            settings,
             passes,
         )
     })
 }
 
 /// A point's residual.
-pub fn residual(records: Records<'_>, point: &[f64], out: &mut f64) -> Result<(), Refusal> {
+pub fn residual(
+    records: Records<'_>,
+    point: &[f64],
+    settings: Settings,
+    out: &mut f64,
+) -> Result<(), Refusal> {
     let Records { nodes, constraints } = records;
     // SAFETY: slices that are read, and a place of a number.
     Refusal::unless_zero(unsafe {
@@ -209,6 +234,7 @@ pub fn residual(records: Records<'_>, point: &[f64], out: &mut f64) -> Result<()
             constraints.len(),
             point.as_ptr(),
             point.len(),
+            settings,
             out,
         )
     })
@@ -234,6 +260,7 @@ pub fn to_nnf(records: Records<'_>, out: &mut [u8], written: &mut usize) -> Resu
 /// Narrows boxes, given by their lower and upper ends. `answer` is 0 for Changed, 1 Stable, 2 Conflict.
 pub fn propagate(
     records: Records<'_>,
+    settings: Settings,
     lo: &mut [f64],
     hi: &mut [f64],
     answer: &mut u8,
@@ -246,6 +273,7 @@ pub fn propagate(
             nodes.len(),
             constraints.as_ptr(),
             constraints.len(),
+            settings,
             lo.as_mut_ptr(),
             lo.len(),
             hi.as_mut_ptr(),
@@ -258,6 +286,7 @@ pub fn propagate(
 /// Narrows one list of intervals, which it alters, as [`propagate`].
 pub fn propagate_intervals(
     records: Records<'_>,
+    settings: Settings,
     boxes: &mut [Interval],
     answer: &mut u8,
 ) -> Result<(), Refusal> {
@@ -270,6 +299,7 @@ pub fn propagate_intervals(
             nodes.len(),
             constraints.as_ptr(),
             constraints.len(),
+            settings,
             boxes.as_mut_ptr(),
             boxes.len(),
             answer,
@@ -299,6 +329,7 @@ pub fn solve_file(
     file: &[u8],
     limit: usize,
     tolerance: f64,
+    settings: Settings,
     to: &mut SolvePlaces<'_>,
 ) -> Result<(), Refusal> {
     // SAFETY: a slice that is read, one that is written, and places of numbers and of a bool, which is written 0 or 1 only.
@@ -308,6 +339,7 @@ pub fn solve_file(
             file.len(),
             limit,
             tolerance,
+            settings,
             &mut to.stop,
             &mut to.exact,
             &mut to.residual,
@@ -326,6 +358,7 @@ pub fn solve(
     hi: &[f64],
     limit: usize,
     tolerance: f64,
+    settings: Settings,
     to: &mut SolvePlaces<'_>,
 ) -> Result<(), Refusal> {
     let Records { nodes, constraints } = records;
@@ -342,6 +375,7 @@ pub fn solve(
             hi.len(),
             limit,
             tolerance,
+            settings,
             &mut to.stop,
             &mut to.exact,
             &mut to.residual,
@@ -372,6 +406,7 @@ macro_rules! decision {
             var: usize,
             range: Interval,
             num_vars: usize,
+            settings: Settings,
             to: &mut DecidePlaces<'_>,
         ) -> Result<(), Refusal> {
             let Records { nodes, constraints } = records;
@@ -386,6 +421,7 @@ macro_rules! decision {
                     range.lo,
                     range.hi,
                     num_vars,
+                    settings,
                     &mut to.verdict,
                     &mut to.count,
                     to.point.as_mut_ptr(),

@@ -21,6 +21,7 @@ mod problem;
 mod raw;
 mod records;
 mod refusal;
+mod settings;
 mod solution;
 
 pub use answer::{Decision, DecisionError, Evaluation, Propagation};
@@ -32,7 +33,8 @@ pub use interval::Interval;
 pub use list::{Bounds, List, Point};
 pub use node::Node;
 pub use numbered::UnknownNumber;
-pub use problem::{Problem, solve_file};
+pub use problem::{Problem, solve_file, solve_file_with};
 pub use records::Records;
 pub use refusal::Refusal;
+pub use settings::Settings;
 pub use solution::{Solution, Stop};

@@ -1,7 +1,7 @@
 //! House files.
 
 use crate::format::{BOUND_BYTES, CONSTRAINT_BYTES, MOST_VALUES, NODE_BYTES, f64_at, u32_at};
-use crate::{Bounds, Interval, List, Records, Refusal, Solution, calls};
+use crate::{Bounds, Interval, List, Records, Refusal, Settings, Solution, calls};
 
 /// A house file that the reader took.
 ///
@@ -82,7 +82,21 @@ impl<'a> Problem<'a> {
     ///
     /// 8 for a limit above 1,000,000 or a NaN tolerance.
     pub fn solve(&self, limit: usize, tolerance: f64) -> Result<Solution, Refusal> {
-        solve_file(self.file, limit, tolerance)
+        self.solve_with(limit, tolerance, Settings::default())
+    }
+
+    /// [`solve`](Self::solve) under settings.
+    ///
+    /// # Errors
+    ///
+    /// 14; then 8.
+    pub fn solve_with(
+        &self,
+        limit: usize,
+        tolerance: f64,
+        settings: Settings,
+    ) -> Result<Solution, Refusal> {
+        solve_file_with(self.file, limit, tolerance, settings)
     }
 }
 
@@ -92,5 +106,19 @@ impl<'a> Problem<'a> {
 ///
 /// 1 to 8.
 pub fn solve_file(file: &[u8], limit: usize, tolerance: f64) -> Result<Solution, Refusal> {
-    Solution::written(|to| calls::solve_file(file, limit, tolerance, to))
+    solve_file_with(file, limit, tolerance, Settings::default())
+}
+
+/// [`solve_file`] under settings.
+///
+/// # Errors
+///
+/// 1 to 7; then 14, and 8.
+pub fn solve_file_with(
+    file: &[u8],
+    limit: usize,
+    tolerance: f64,
+    settings: Settings,
+) -> Result<Solution, Refusal> {
+    Solution::written(|to| calls::solve_file(file, limit, tolerance, settings, to))
 }

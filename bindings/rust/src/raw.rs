@@ -3,7 +3,7 @@
 //! A call marked safe takes every argument and touches no memory but the places behind its references. The others
 //! take slices as a pointer and a length; `calls` makes them safe.
 
-use crate::Interval;
+use crate::{Interval, Settings};
 
 unsafe extern "C" {
     pub safe fn eml_exp(x: f64) -> f64;
@@ -54,6 +54,8 @@ unsafe extern "C" {
     pub safe fn eml_interval_ln(lo: f64, hi: f64, low: &mut f64, high: &mut f64);
     pub safe fn eml_interval_exp_inv(lo: f64, hi: f64, low: &mut f64, high: &mut f64);
     pub safe fn eml_interval_ln_inv(lo: f64, hi: f64, low: &mut f64, high: &mut f64);
+    pub safe fn eml_usual_settings() -> Settings;
+    pub safe fn eml_test_settings(settings: Settings) -> u8;
 
     pub fn eml_read(file: *const u8, length: usize) -> u8;
     pub fn eml_read_records(
@@ -97,6 +99,7 @@ unsafe extern "C" {
         node: usize,
         point: *const f64,
         point_length: usize,
+        settings: Settings,
         kind: &mut u8,
         value: &mut f64,
         index: &mut usize,
@@ -109,6 +112,7 @@ unsafe extern "C" {
         constraints_length: usize,
         point: *const f64,
         point_length: usize,
+        settings: Settings,
         passes: &mut bool,
     ) -> u8;
     pub fn eml_residual(
@@ -118,6 +122,7 @@ unsafe extern "C" {
         constraints_length: usize,
         point: *const f64,
         point_length: usize,
+        settings: Settings,
         out: &mut f64,
     ) -> u8;
     pub fn eml_to_nnf(
@@ -134,6 +139,7 @@ unsafe extern "C" {
         nodes_length: usize,
         constraints: *const u8,
         constraints_length: usize,
+        settings: Settings,
         lo: *mut f64,
         lo_length: usize,
         hi: *mut f64,
@@ -145,6 +151,7 @@ unsafe extern "C" {
         nodes_length: usize,
         constraints: *const u8,
         constraints_length: usize,
+        settings: Settings,
         boxes: *mut Interval,
         boxes_length: usize,
         answer: &mut u8,
@@ -154,6 +161,7 @@ unsafe extern "C" {
         length: usize,
         limit: usize,
         tolerance: f64,
+        settings: Settings,
         stop: &mut u8,
         exact: &mut bool,
         residual: &mut f64,
@@ -173,6 +181,7 @@ unsafe extern "C" {
         hi_length: usize,
         limit: usize,
         tolerance: f64,
+        settings: Settings,
         stop: &mut u8,
         exact: &mut bool,
         residual: &mut f64,
@@ -216,6 +225,7 @@ alike!(
         lo: f64,
         hi: f64,
         num_vars: usize,
+        settings: Settings,
         verdict: &mut u8,
         count: &mut usize,
         point: *mut f64,

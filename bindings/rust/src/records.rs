@@ -5,7 +5,7 @@ use crate::format::{CONSTRAINT_BYTES, NODE_BYTES};
 use crate::interval::Ends;
 use crate::{
     Constraint, Decision, DecisionError, Evaluation, Interval, IntervalDomain, Node, Point,
-    Propagation, Refusal, Solution,
+    Propagation, Refusal, Settings, Solution,
 };
 
 /// The records of nodes and constraints, as a house file has them, without the file. [`Builder`](crate::Builder) makes them.
@@ -103,8 +103,22 @@ impl<'a> Records<'a> {
     ///
     /// 2 to 4; then 3 where there is no such node, and 9 for a point of over 16 values.
     pub fn eval_real(&self, node: usize, point: &[f64]) -> Result<Evaluation, Refusal> {
+        self.eval_real_with(node, point, Settings::default())
+    }
+
+    /// [`eval_real`](Self::eval_real) under settings.
+    ///
+    /// # Errors
+    ///
+    /// As there; and 14 before 9.
+    pub fn eval_real_with(
+        &self,
+        node: usize,
+        point: &[f64],
+        settings: Settings,
+    ) -> Result<Evaluation, Refusal> {
         let mut to = EvalPlaces::default();
-        calls::eval_real(self.nodes, node, point, &mut to)?;
+        calls::eval_real(self.nodes, node, point, settings, &mut to)?;
         Ok(Evaluation::of(to))
     }
 
@@ -125,8 +139,17 @@ impl<'a> Records<'a> {
     ///
     /// 2 to 7; then 9 for a point of over 16 values.
     pub fn check(&self, point: &[f64]) -> Result<bool, Refusal> {
+        self.check_with(point, Settings::default())
+    }
+
+    /// [`check`](Self::check) under settings.
+    ///
+    /// # Errors
+    ///
+    /// As there; and 14 before 9.
+    pub fn check_with(&self, point: &[f64], settings: Settings) -> Result<bool, Refusal> {
         let mut passes = false;
-        calls::check(*self, point, &mut passes)?;
+        calls::check(*self, point, settings, &mut passes)?;
         Ok(passes)
     }
 
@@ -156,9 +179,24 @@ impl<'a> Records<'a> {
     ///
     /// 2 to 7; then 9 for over 16 bounds, or an unsound one.
     pub fn check_midpoint(&self, bounds: &[Interval]) -> Result<Option<Point>, Refusal> {
-        let domain = IntervalDomain::new(bounds, self.num_vars()?)?;
+        self.check_midpoint_with(bounds, Settings::default())
+    }
+
+    /// [`check_midpoint`](Self::check_midpoint) under settings.
+    ///
+    /// # Errors
+    ///
+    /// As there; and 14 before 9.
+    pub fn check_midpoint_with(
+        &self,
+        bounds: &[Interval],
+        settings: Settings,
+    ) -> Result<Option<Point>, Refusal> {
+        let num_vars = self.num_vars()?;
+        settings.test()?;
+        let domain = IntervalDomain::new(bounds, num_vars)?;
         let midpoint = domain.vars.map(Interval::midpoint);
-        Ok(self.check(&midpoint)?.then_some(midpoint))
+        Ok(self.check_with(&midpoint, settings)?.then_some(midpoint))
     }
 
     /// A point's residual: how far it is from meeting the constraint. The solver keeps the lower half of a box only where the
@@ -179,8 +217,17 @@ impl<'a> Records<'a> {
     ///
     /// 2 to 7; then 9 for a point of over 16 values.
     pub fn residual(&self, point: &[f64]) -> Result<f64, Refusal> {
+        self.residual_with(point, Settings::default())
+    }
+
+    /// [`residual`](Self::residual) under settings.
+    ///
+    /// # Errors
+    ///
+    /// As there; and 14 before 9.
+    pub fn residual_with(&self, point: &[f64], settings: Settings) -> Result<f64, Refusal> {
         let mut out = 0.0;
-        calls::residual(*self, point, &mut out)?;
+        calls::residual(*self, point, settings, &mut out)?;
         Ok(out)
     }
 
@@ -232,7 +279,20 @@ impl<'a> Records<'a> {
     ///
     /// 2 to 7; then 9 for over 16 intervals, or an unsound one.
     pub fn propagate(&self, boxes: &mut [Interval]) -> Result<Propagation, Refusal> {
-        Propagation::written(|answer| calls::propagate_intervals(*self, boxes, answer))
+        self.propagate_with(boxes, Settings::default())
+    }
+
+    /// [`propagate`](Self::propagate) under settings.
+    ///
+    /// # Errors
+    ///
+    /// As there; and 14 before 9.
+    pub fn propagate_with(
+        &self,
+        boxes: &mut [Interval],
+        settings: Settings,
+    ) -> Result<Propagation, Refusal> {
+        Propagation::written(|answer| calls::propagate_intervals(*self, settings, boxes, answer))
     }
 
     /// [`propagate`](Self::propagate) on two lists of ends.
@@ -254,7 +314,21 @@ impl<'a> Records<'a> {
     ///
     /// As there; and 9 for lists of different lengths.
     pub fn propagate_ends(&self, lo: &mut [f64], hi: &mut [f64]) -> Result<Propagation, Refusal> {
-        Propagation::written(|answer| calls::propagate(*self, lo, hi, answer))
+        self.propagate_ends_with(lo, hi, Settings::default())
+    }
+
+    /// [`propagate_ends`](Self::propagate_ends) under settings.
+    ///
+    /// # Errors
+    ///
+    /// As there; and 14 before 9.
+    pub fn propagate_ends_with(
+        &self,
+        lo: &mut [f64],
+        hi: &mut [f64],
+        settings: Settings,
+    ) -> Result<Propagation, Refusal> {
+        Propagation::written(|answer| calls::propagate(*self, settings, lo, hi, answer))
     }
 
     /// Solves in the box of the bounds; a missing one is [-10,10], a surplus one unused. `limit` is the most halvings, and a box
@@ -282,8 +356,24 @@ impl<'a> Records<'a> {
         limit: usize,
         tolerance: f64,
     ) -> Result<Solution, Refusal> {
+        self.solve_with(bounds, limit, tolerance, Settings::default())
+    }
+
+    /// [`solve`](Self::solve) under settings.
+    ///
+    /// # Errors
+    ///
+    /// As there; and 14 before 8.
+    pub fn solve_with(
+        &self,
+        bounds: &[Interval],
+        limit: usize,
+        tolerance: f64,
+        settings: Settings,
+    ) -> Result<Solution, Refusal> {
         let bounds = Ends::of(bounds);
-        Solution::written(|to| calls::solve(*self, bounds.lo(), bounds.hi(), limit, tolerance, to))
+        let (lo, hi) = (bounds.lo(), bounds.hi());
+        Solution::written(|to| calls::solve(*self, lo, hi, limit, tolerance, settings, to))
     }
 
     /// Whether the constraint holds for every value of variable `var` in `range`: True where propagation of its negation meets a
@@ -312,9 +402,24 @@ impl<'a> Records<'a> {
     /// 2 to 7; then [`NoSuchVariable`](DecisionError::NoSuchVariable) where the constraint has no variable `var`, and 9 for an
     /// unsound range.
     pub fn decide_forall(&self, var: usize, range: Interval) -> Result<Decision, DecisionError> {
-        let num_vars = self.num_vars_with(var)?;
-        let decided =
-            Decision::written(|to| calls::decide_forall(*self, var, range, num_vars, to))?;
+        self.decide_forall_with(var, range, Settings::default())
+    }
+
+    /// [`decide_forall`](Self::decide_forall) under settings.
+    ///
+    /// # Errors
+    ///
+    /// As there; and 14 before [`NoSuchVariable`](DecisionError::NoSuchVariable).
+    pub fn decide_forall_with(
+        &self,
+        var: usize,
+        range: Interval,
+        settings: Settings,
+    ) -> Result<Decision, DecisionError> {
+        let num_vars = self.decided_among(var, settings)?;
+        let decided = Decision::written(|to| {
+            calls::decide_forall(*self, var, range, num_vars, settings, to)
+        })?;
         Ok(decided)
     }
 
@@ -338,15 +443,32 @@ impl<'a> Records<'a> {
     ///
     /// As [`decide_forall`](Self::decide_forall).
     pub fn decide_exists(&self, var: usize, range: Interval) -> Result<Decision, DecisionError> {
-        let num_vars = self.num_vars_with(var)?;
-        let decided =
-            Decision::written(|to| calls::decide_exists(*self, var, range, num_vars, to))?;
+        self.decide_exists_with(var, range, Settings::default())
+    }
+
+    /// [`decide_exists`](Self::decide_exists) under settings.
+    ///
+    /// # Errors
+    ///
+    /// As [`decide_forall_with`](Self::decide_forall_with).
+    pub fn decide_exists_with(
+        &self,
+        var: usize,
+        range: Interval,
+        settings: Settings,
+    ) -> Result<Decision, DecisionError> {
+        let num_vars = self.decided_among(var, settings)?;
+        let decided = Decision::written(|to| {
+            calls::decide_exists(*self, var, range, num_vars, settings, to)
+        })?;
         Ok(decided)
     }
 
-    /// How many variables the constraint has, `var` being one of them.
-    fn num_vars_with(&self, var: usize) -> Result<usize, DecisionError> {
+    /// How many variables the constraint has, `var` being one of them. The settings are tested before that, since document 01
+    /// has no number for a variable that is not there.
+    fn decided_among(&self, var: usize, settings: Settings) -> Result<usize, DecisionError> {
         let num_vars = self.num_vars()?;
+        settings.test()?;
         if var < num_vars {
             Ok(num_vars)
         } else {

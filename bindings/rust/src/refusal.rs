@@ -40,10 +40,13 @@ pub enum Refusal {
     Boxes = 9,
     /// 10: output slice or node list too short.
     TooShort = 10,
+    /// 14: a parameter outside its range.
+    Parameter = 14,
 }
 
 try_from_number!(
-    Refusal: Header, Layout, Node, Extent, Constraint, Range, Nesting, LimitOrTolerance, Boxes, TooShort
+    Refusal: Header, Layout, Node, Extent, Constraint, Range, Nesting, LimitOrTolerance, Boxes, TooShort,
+    Parameter
 );
 
 impl Refusal {
@@ -67,6 +70,7 @@ impl Refusal {
             Self::LimitOrTolerance => "limit above 1,000,000 or NaN tolerance",
             Self::Boxes => "over 16 boxes or variables, or an unsound box or range",
             Self::TooShort => "output slice or node list too short",
+            Self::Parameter => "a parameter outside its range",
         }
     }
 

@@ -1,7 +1,7 @@
 //! That eml.h has the package's version, numbers and words.
 
 use eml::calls::{self, DecidePlaces, EvalPlaces};
-use eml::{Constraint, Interval, Node, Propagation, Records};
+use eml::{Constraint, Interval, Node, Propagation, Records, Settings};
 use eml::{Refusal, Relation, Stop, canonical, format};
 use std::fmt::Debug;
 
@@ -94,7 +94,7 @@ fn the_kinds_the_refusals_and_the_stops() {
             seen += 1;
         }
     }
-    assert_eq!(seen, 6 + 10 + 5);
+    assert_eq!(seen, 6 + 11 + 5);
 }
 
 /// As the test above, with what follows the number: 1 is not 10.
@@ -160,7 +160,7 @@ fn the_evaluations() {
     let cases: [(usize, &[f64]); 4] = [(0, &[2.0]), (0, &[]), (0, &[f64::NAN]), (2, &[-1.0])];
     for (number, (node, point)) in (0..).zip(cases) {
         let mut to = EvalPlaces::default();
-        calls::eval_real(&nodes, node, point, &mut to).expect("sound");
+        calls::eval_real(&nodes, node, point, Settings::default(), &mut to).expect("sound");
         assert_eq!(to.kind, number);
         let evaluation = records.eval_real(node, point).expect("sound");
         has_number(&format!("EVAL_{}", variant_in_c(&evaluation)), number);
@@ -182,16 +182,17 @@ fn the_verdicts() {
         (false, -2.0, -1.0),
     ]) {
         let range = Interval::new(lo, hi);
+        let settings = Settings::default();
         let mut to = DecidePlaces {
             verdict: u8::MAX,
             count: 0,
             point: &mut [0.0],
         };
         let decision = if forall {
-            calls::decide_forall(records, 0, range, 1, &mut to).expect("sound");
+            calls::decide_forall(records, 0, range, 1, settings, &mut to).expect("sound");
             records.decide_forall(0, range)
         } else {
-            calls::decide_exists(records, 0, range, 1, &mut to).expect("sound");
+            calls::decide_exists(records, 0, range, 1, settings, &mut to).expect("sound");
             records.decide_exists(0, range)
         };
         assert_eq!(to.verdict, number);
