@@ -48,7 +48,8 @@ int main(void) {
     const double lo[] = {1.5, 2.0, 1.5, 39.75, 39.0}, hi[] = {2.5, 3.0, 3.0, 40.0, 39.25};
     const size_t length = EML_NODE_BYTES * count;
     eml_solution solution;
-    taken(eml_solve_to(nodes, length, constraints, sizeof constraints, lo, 5, hi, 5, 10000, 1e-8, &solution));
+    const eml_settings settings = eml_usual_settings();
+    taken(eml_solve_to(nodes, length, constraints, sizeof constraints, lo, 5, hi, 5, 10000, 1e-8, settings, &solution));
     if (solution.stop != EML_ASSIGNMENT) {
         printf("%s\n", eml_stop_word(solution.stop));
         return 1;

@@ -5,6 +5,7 @@
 #include "eml.h"
 
 #include <float.h>
+#include <math.h>
 #include <stdio.h>
 #include <string.h>
 
@@ -18,6 +19,7 @@ static void holds(bool condition, const char *text, int line) {
 }
 
 #define HOLDS(condition) holds(condition, #condition, __LINE__)
+#define USUAL eml_usual_settings()
 
 /* Whether two numbers are equal but for the last bits. */
 static bool near(double a, double b) {
@@ -39,7 +41,7 @@ static void files(const char *path) {
     uint64_t vars = 0;
     HOLDS(eml_num_vars(file, length, &vars) == 0 && vars == 1);
     eml_solution solution;
-    HOLDS(eml_solve_file_to(file, length, 10000, 1e-8, &solution) == 0 && solution.stop == EML_CONFLICT);
+    HOLDS(eml_solve_file_to(file, length, 10000, 1e-8, USUAL, &solution) == 0 && solution.stop == EML_CONFLICT);
     HOLDS(!solution.exact && solution.residual > DBL_MAX && solution.halvings == 0 && solution.count == 0);
 
     eml_parts parts;
@@ -52,7 +54,8 @@ static void files(const char *path) {
     HOLDS(eml_domain_new(parts.lo, parts.bounds, parts.hi, parts.bounds, 1, lo, 1, hi, 1) == 0);
     const double middle[] = {eml_interval_midpoint(lo[0], hi[0])};
     bool passes = false;
-    HOLDS(eml_check(parts.nodes, parts.nodes_length, parts.constraints, parts.constraints_length, middle, 1, &passes) == 0);
+    HOLDS(eml_check(parts.nodes, parts.nodes_length, parts.constraints, parts.constraints_length, middle, 1, USUAL,
+                    &passes) == 0);
     HOLDS(passes && middle[0] == 2.0);
 }
 
@@ -81,17 +84,17 @@ static void records(void) {
 static void solving(void) {
     const double lo[] = {-4.0, 1.0}, hi[] = {2.0, 3.0};
     eml_solution solution;
-    HOLDS(eml_solve_to(RECORDS, lo, 2, hi, 2, 10000, 1e-8, &solution) == 0 && solution.stop == EML_ASSIGNMENT);
+    HOLDS(eml_solve_to(RECORDS, lo, 2, hi, 2, 10000, 1e-8, USUAL, &solution) == 0 && solution.stop == EML_ASSIGNMENT);
     HOLDS(!solution.exact && solution.residual == 0.0 && solution.halvings == 0);
     HOLDS(solution.count == 2 && solution.point[0] == -1.0 && solution.point[1] == 2.0);
-    HOLDS(eml_solve_to(RECORDS, hi, 2, hi, 2, 10000, 1e-8, &solution) == 0 && solution.exact);
-    HOLDS(eml_solve_to(RECORDS, NULL, 0, NULL, 0, 10000, 1e-8, &solution) == 0 && solution.point[1] == 5.0);
-    HOLDS(eml_solve_to(RECORDS, lo, 2, hi, 1, 10000, 1e-8, &solution) == EML_REFUSED_BOXES);
-    HOLDS(eml_solve_to(RECORDS, lo, 2, hi, 2, EML_MOST_LIMIT + 1, 1e-8, &solution) == EML_REFUSED_LIMIT_OR_TOLERANCE);
+    HOLDS(eml_solve_to(RECORDS, hi, 2, hi, 2, 10000, 1e-8, USUAL, &solution) == 0 && solution.exact);
+    HOLDS(eml_solve_to(RECORDS, NULL, 0, NULL, 0, 10000, 1e-8, USUAL, &solution) == 0 && solution.point[1] == 5.0);
+    HOLDS(eml_solve_to(RECORDS, lo, 2, hi, 1, 10000, 1e-8, USUAL, &solution) == EML_REFUSED_BOXES);
+    HOLDS(eml_solve_to(RECORDS, lo, 2, hi, 2, EML_MOST_LIMIT + 1, 1e-8, USUAL, &solution) == EML_REFUSED_LIMIT_OR_TOLERANCE);
 }
 
-typedef uint8_t decision(const uint8_t *, size_t, const uint8_t *, size_t, size_t, double, double, size_t, uint8_t *, size_t *,
-                         double *, size_t);
+typedef uint8_t decision(const uint8_t *, size_t, const uint8_t *, size_t, size_t, double, double, size_t, eml_settings,
+                         uint8_t *, size_t *, double *, size_t);
 
 static const struct {
     decision *call;
@@ -110,7 +113,7 @@ static void deciding(void) {
         uint8_t verdict = 0xAA;
         size_t count = 0;
         double point[] = {0.0, 0.0};
-        HOLDS(DECISIONS[i].call(RECORDS, 1, DECISIONS[i].lo, DECISIONS[i].hi, 2, &verdict, &count, point, 2) == 0);
+        HOLDS(DECISIONS[i].call(RECORDS, 1, DECISIONS[i].lo, DECISIONS[i].hi, 2, USUAL, &verdict, &count, point, 2) == 0);
         HOLDS(verdict == DECISIONS[i].verdict && point[0] == 0.0 && point[1] == DECISIONS[i].value);
         HOLDS(count == (DECISIONS[i].value == 0.0 ? 0u : 2u));
     }
@@ -119,13 +122,13 @@ static void deciding(void) {
 static void narrowing(void) {
     double lo[] = {-2.0, -1.0}, hi[] = {3.0, 1.0};
     uint8_t answer = 0xAA;
-    HOLDS(eml_propagate(RECORDS, lo, 2, hi, 2, &answer) == 0 && answer == EML_PROP_CHANGED);
+    HOLDS(eml_propagate(RECORDS, USUAL, lo, 2, hi, 2, &answer) == 0 && answer == EML_PROP_CHANGED);
     HOLDS(lo[0] == -2.0 && hi[0] == 3.0 && lo[1] == 0.0 && hi[1] == 1.0);
     eml_interval boxes[] = {{-2.0, 3.0}, {0.0, 1.0}};
-    HOLDS(eml_propagate_intervals(RECORDS, boxes, 2, &answer) == 0 && answer == EML_PROP_STABLE);
+    HOLDS(eml_propagate_intervals(RECORDS, USUAL, boxes, 2, &answer) == 0 && answer == EML_PROP_STABLE);
     boxes[1].lo = -3.0;
     boxes[1].hi = -1.0;
-    HOLDS(eml_propagate_intervals(RECORDS, boxes, 2, &answer) == 0 && answer == EML_PROP_CONFLICT);
+    HOLDS(eml_propagate_intervals(RECORDS, USUAL, boxes, 2, &answer) == 0 && answer == EML_PROP_CONFLICT);
 
     double low[2], high[2];
     HOLDS(eml_domain_new(lo, 1, hi, 1, 2, low, 2, high, 2) == 0);
@@ -146,19 +149,167 @@ static void points(void) {
     uint8_t kind = 0xAA;
     double value = 0.0;
     size_t index = 9, count = 9;
-    HOLDS(eml_eval_real(nodes, sizeof nodes, 0, good, 2, &kind, &value, &index, &count) == 0);
+    HOLDS(eml_eval_real(nodes, sizeof nodes, 0, good, 2, USUAL, &kind, &value, &index, &count) == 0);
     HOLDS(kind == EML_EVAL_VALUE && value == 2.0 && index == 9 && count == 9);
-    HOLDS(eml_eval_real(nodes, sizeof nodes, 0, good, 0, &kind, &value, &index, &count) == 0);
+    HOLDS(eml_eval_real(nodes, sizeof nodes, 0, good, 0, USUAL, &kind, &value, &index, &count) == 0);
     HOLDS(kind == EML_EVAL_VAR_OUT_OF_BOUNDS && index == 1 && count == 0);
-    HOLDS(eml_eval_real(nodes, sizeof nodes, 0, not_a_number, 2, &kind, &value, &index, &count) == 0);
+    HOLDS(eml_eval_real(nodes, sizeof nodes, 0, not_a_number, 2, USUAL, &kind, &value, &index, &count) == 0);
     HOLDS(kind == EML_EVAL_NAN_ENCOUNTERED);
-    HOLDS(eml_eval_real(nodes, sizeof nodes, 2, bad, 2, &kind, &value, &index, &count) == 0);
+    HOLDS(eml_eval_real(nodes, sizeof nodes, 2, bad, 2, USUAL, &kind, &value, &index, &count) == 0);
     HOLDS(kind == EML_EVAL_COMPLEX_RESULT && near(value, 3.141592653589793));
 
     bool passes = false;
-    HOLDS(eml_check(RECORDS, good, 2, &passes) == 0 && passes);
-    HOLDS(eml_check(RECORDS, bad, 2, &passes) == 0 && !passes);
-    HOLDS(eml_residual(RECORDS, bad, 2, &value) == 0 && value == 1.0);
+    HOLDS(eml_check(RECORDS, good, 2, USUAL, &passes) == 0 && passes);
+    HOLDS(eml_check(RECORDS, bad, 2, USUAL, &passes) == 0 && !passes);
+    HOLDS(eml_residual(RECORDS, bad, 2, USUAL, &value) == 0 && value == 1.0);
+}
+
+/* Settings at the edges of their ranges, and past them. */
+static const struct {
+    eml_settings settings;
+    uint8_t refusal;
+} TESTED[] = {
+    {{1, 1e-8, 1e-12, 1.0}, 0},
+    {{100, DBL_MAX, DBL_TRUE_MIN, 709.0}, 0},
+    {{20, 1e-8, 1e-8 - 1e-23, 708.5}, 0},
+    {{0, 1e-8, 1e-12, 709.0}, EML_REFUSED_PARAMETER},
+    {{101, 1e-8, 1e-12, 709.0}, EML_REFUSED_PARAMETER},
+    {{SIZE_MAX, 1e-8, 1e-12, 709.0}, EML_REFUSED_PARAMETER},
+    {{20, 1e-12, 1e-12, 709.0}, EML_REFUSED_PARAMETER},
+    {{20, INFINITY, 1e-12, 709.0}, EML_REFUSED_PARAMETER},
+    {{20, NAN, 1e-12, 709.0}, EML_REFUSED_PARAMETER},
+    {{20, 1e-8, 0.0, 709.0}, EML_REFUSED_PARAMETER},
+    {{20, 1e-8, -0.0, 709.0}, EML_REFUSED_PARAMETER},
+    {{20, 1e-8, -1e-12, 709.0}, EML_REFUSED_PARAMETER},
+    {{20, 1e-8, NAN, 709.0}, EML_REFUSED_PARAMETER},
+    {{20, 1e-8, 1e-12, 1.0 - DBL_EPSILON / 2.0}, EML_REFUSED_PARAMETER},
+    {{20, 1e-8, 1e-12, 709.0 * (1.0 + DBL_EPSILON)}, EML_REFUSED_PARAMETER},
+    {{20, 1e-8, 1e-12, NAN}, EML_REFUSED_PARAMETER},
+};
+
+static void settings(void) {
+    const eml_settings usual = eml_usual_settings();
+    HOLDS(usual.rounds == 20 && usual.equality == 1e-8 && usual.slack == 1e-12 && usual.clamp == 709.0);
+    HOLDS(eml_test_settings(usual) == 0);
+    for (size_t i = 0; i < sizeof TESTED / sizeof *TESTED; i++) {
+        HOLDS(eml_test_settings(TESTED[i].settings) == TESTED[i].refusal);
+    }
+}
+
+/* Variable 0 is at least 0, in [-0.5,0.25]. */
+static const uint8_t AT_LEAST[] = {
+    'E', 'M', 'L', 'Q', 1, 0, 0,    0,    32, 0, 0, 0, 1, 0, 0,    0,    /* nodes from 32 on: 1 */
+    48,  0,   0,   0,   1, 0, 0,    0,    72, 0, 0, 0, 1, 0, 0,    0,    /* constraints from 48 on: 1; bounds from 72 on: 1 */
+    2,   0,   0,   0,   0, 0, 0,    0,    0,  0, 0, 0, 0, 0, 0,    0,    /* Var 0 */
+    2,   0,   0,   0,   0, 0, 0,    0,    0,  0, 0, 0, 0, 0, 0,    0,    /* GeZero 0 */
+    0,   0,   0,   0,   0, 0, 0,    0,                                   /* in no range */
+    0,   0,   0,   0,   0, 0, 0xE0, 0xBF, 0,  0, 0, 0, 0, 0, 0xD0, 0x3F, /* [-0.5,0.25] */
+};
+
+/* Every call that gets settings answers by them. Each number changes an answer, so each field is where the library has it. */
+static void other_settings(void) {
+    /* An end is moved by more than 0.75 only, and a value of at least -0.75 passes. */
+    eml_settings loose = eml_usual_settings();
+    loose.equality = 1.0;
+    loose.slack = 0.75;
+    eml_solution solution;
+    HOLDS(eml_solve_file_to(AT_LEAST, sizeof AT_LEAST, 10000, 1e-8, USUAL, &solution) == 0 && solution.point[0] == 0.125);
+    HOLDS(eml_solve_file_to(AT_LEAST, sizeof AT_LEAST, 10000, 1e-8, loose, &solution) == 0 && solution.point[0] == -0.125);
+    const double lo[] = {1.0, -0.5}, hi[] = {1.0, 0.25};
+    HOLDS(eml_solve_to(RECORDS, lo, 2, hi, 2, 10000, 1e-8, USUAL, &solution) == 0 && solution.point[1] == 0.125);
+    HOLDS(eml_solve_to(RECORDS, lo, 2, hi, 2, 10000, 1e-8, loose, &solution) == 0 && solution.point[1] == -0.125);
+    uint8_t verdict = 0xAA, answer = 0xAA, kind = 0xAA;
+    size_t index, count = 0;
+    double point[] = {9.0, 9.0};
+    HOLDS(eml_decide_forall(RECORDS, 1, -0.5, 2.0, 2, loose, &verdict, &count, point, 2) == 0 && verdict == EML_UNKNOWN);
+    HOLDS(eml_decide_exists(RECORDS, 1, -1.0, -0.5, 2, loose, &verdict, &count, point, 2) == 0);
+    HOLDS(verdict == EML_TRUE_WITH_WITNESS && count == 2 && point[1] == -0.75);
+    eml_interval boxes[] = {{1.0, 1.0}, {-0.5, 0.25}};
+    HOLDS(eml_propagate_intervals(RECORDS, loose, boxes, 2, &answer) == 0 && answer == EML_PROP_STABLE);
+    HOLDS(eml_propagate_intervals(RECORDS, USUAL, boxes, 2, &answer) == 0 && answer == EML_PROP_CHANGED);
+
+    /* exp(v0) = ln(v1), and v0 is at least 0: what the second tells of v1 comes with the next round. */
+    uint8_t both[3 * EML_NODE_BYTES], equal[3 * EML_CONSTRAINT_BYTES];
+    eml_write_var(both, 0, 0);
+    eml_write_var(both, 1, 1);
+    eml_write_eml(both, 2, 0, 1);
+    eml_write_atom(equal, 0, EML_KIND_EQ_ZERO, 2);
+    eml_write_atom(equal, 1, EML_KIND_GE_ZERO, 0);
+    eml_write_and(equal, 2, 2);
+    eml_settings once = eml_usual_settings();
+    once.rounds = 1;
+    double low[] = {-1.0, 1.0}, high[] = {1.0, 16.0};
+    HOLDS(eml_propagate(both, sizeof both, equal, sizeof equal, once, low, 2, high, 2, &answer) == 0);
+    HOLDS(answer == EML_PROP_CHANGED && low[0] == 0.0 && near(low[1], 1.444667861009766));
+    HOLDS(eml_propagate(both, sizeof both, equal, sizeof equal, once, low, 2, high, 2, &answer) == 0);
+    HOLDS(answer == EML_PROP_CHANGED && near(low[1], 2.718281828459045));
+
+    /* exp(0.5) is ln(5) to a tenth; and exp(3) is exp(1.5) under the clamp. */
+    const double half[] = {0.5, 5.0}, three[] = {3.0, 1.0};
+    bool passes = true;
+    eml_settings tenth = eml_usual_settings(), clamped = eml_usual_settings();
+    HOLDS(eml_check(both, sizeof both, equal, EML_CONSTRAINT_BYTES, half, 2, tenth, &passes) == 0 && !passes);
+    tenth.equality = 0.1;
+    HOLDS(eml_check(both, sizeof both, equal, EML_CONSTRAINT_BYTES, half, 2, tenth, &passes) == 0 && passes);
+    double value = 0.0;
+    clamped.clamp = 1.5;
+    HOLDS(eml_eval_real(both, sizeof both, 2, three, 2, clamped, &kind, &value, &index, &count) == 0);
+    HOLDS(kind == EML_EVAL_VALUE && near(value, 4.4816890703380645));
+    HOLDS(eml_residual(both, sizeof both, equal, EML_CONSTRAINT_BYTES, three, 2, clamped, &value) == 0);
+    HOLDS(near(value, 4.4816890703380645));
+}
+
+/* The refusals of a call in their order: of the file or the records, of the settings, and of what else it is given. */
+static const uint8_t LIMITS[] = {EML_REFUSED_LAYOUT, EML_REFUSED_PARAMETER, EML_REFUSED_LIMIT_OR_TOLERANCE};
+static const uint8_t BOXES[] = {EML_REFUSED_LAYOUT, EML_REFUSED_PARAMETER, EML_REFUSED_BOXES};
+
+/* The records that it is given, whose length is wrong at first, and the places for a solution, with none for the point. */
+#define GIVEN nodes, length, constraints, EML_CONSTRAINT_BYTES
+#define SOLUTION &byte, &flag, &value, &index, &count, point, 0
+
+static void refused_settings(void) {
+    eml_settings refused = eml_usual_settings();
+    refused.rounds = 0;
+    const double many[EML_MOST_VALUES + 1] = {0.0};
+    double lo[] = {0.0, 2.0}, hi[] = {0.0, 1.0}, point[] = {9.0, 9.0}, value = 9.0;
+    eml_interval boxes[] = {{0.0, 0.0}, {2.0, 1.0}};
+    uint8_t byte = 0xAA;
+    bool flag = true;
+    size_t index = 9, count = 9;
+    for (int i = 0; i < 3; i++) {
+        const size_t length = sizeof nodes - (i == 0), file_length = sizeof AT_LEAST - (i == 0);
+        const eml_settings given = i < 2 ? refused : eml_usual_settings();
+        HOLDS(eml_solve_file(AT_LEAST, file_length, 0, NAN, given, SOLUTION) == LIMITS[i]);
+        HOLDS(eml_solve(GIVEN, lo, 2, hi, 2, 0, NAN, given, SOLUTION) == LIMITS[i]);
+        HOLDS(eml_decide_forall(GIVEN, 1, 2.0, 1.0, 2, given, &byte, &count, point, 0) == BOXES[i]);
+        HOLDS(eml_decide_exists(GIVEN, 1, 2.0, 1.0, 2, given, &byte, &count, point, 0) == BOXES[i]);
+        HOLDS(eml_propagate(GIVEN, given, lo, 2, hi, 2, &byte) == BOXES[i]);
+        HOLDS(eml_propagate_intervals(GIVEN, given, boxes, 2, &byte) == BOXES[i]);
+        HOLDS(eml_check(GIVEN, many, 17, given, &flag) == BOXES[i]);
+        HOLDS(eml_residual(GIVEN, many, 17, given, &value) == BOXES[i]);
+        HOLDS(eml_eval_real(nodes, length, 0, many, 17, given, &byte, &value, &index, &count) == BOXES[i]);
+    }
+    HOLDS(eml_eval_real(nodes, sizeof nodes, 3, many, 17, refused, &byte, &value, &index, &count) == EML_REFUSED_NODE);
+    HOLDS(byte == 0xAA && flag && value == 9.0 && index == 9 && count == 9 && point[0] == 9.0);
+    HOLDS(lo[1] == 2.0 && hi[1] == 1.0 && boxes[1].lo == 2.0 && boxes[1].hi == 1.0);
+
+    /* Where only the settings are wrong, no call narrows or answers either. */
+    double low[] = {0.0, -1.0}, high[] = {0.0, 1.0};
+    eml_interval around[] = {{0.0, 0.0}, {-1.0, 1.0}};
+    eml_solution solution = {0xAA, true, 9.0, 9, 9, {9.0}};
+    HOLDS(eml_propagate(RECORDS, refused, low, 2, high, 2, &byte) == EML_REFUSED_PARAMETER);
+    HOLDS(eml_propagate_intervals(RECORDS, refused, around, 2, &byte) == EML_REFUSED_PARAMETER);
+    HOLDS(eml_check(RECORDS, low, 2, refused, &flag) == EML_REFUSED_PARAMETER);
+    HOLDS(eml_residual(RECORDS, low, 2, refused, &value) == EML_REFUSED_PARAMETER);
+    HOLDS(eml_eval_real(nodes, sizeof nodes, 0, low, 2, refused, &byte, &value, &index, &count) == EML_REFUSED_PARAMETER);
+    HOLDS(eml_decide_forall(RECORDS, 1, -1.0, 1.0, 2, refused, &byte, &count, point, 2) == EML_REFUSED_PARAMETER);
+    HOLDS(eml_decide_exists(RECORDS, 1, -1.0, 1.0, 2, refused, &byte, &count, point, 2) == EML_REFUSED_PARAMETER);
+    HOLDS(eml_solve_to(RECORDS, low, 2, high, 2, 100, 0.1, refused, &solution) == EML_REFUSED_PARAMETER);
+    HOLDS(eml_solve_file_to(AT_LEAST, sizeof AT_LEAST, 100, 0.1, refused, &solution) == EML_REFUSED_PARAMETER);
+    HOLDS(byte == 0xAA && flag && value == 9.0 && index == 9 && count == 9 && point[0] == 9.0);
+    HOLDS(low[1] == -1.0 && high[1] == 1.0 && around[1].lo == -1.0 && around[1].hi == 1.0);
+    HOLDS(solution.stop == 0xAA && solution.exact && solution.residual == 9.0 && solution.halvings == 9);
+    HOLDS(solution.count == 9 && solution.point[0] == 9.0);
 }
 
 typedef uint8_t comparison(uint8_t *, size_t, size_t, size_t, size_t, uint8_t *, size_t);
@@ -179,7 +330,7 @@ static double value_at_3(const uint8_t *list, size_t length, size_t node) {
     uint8_t kind = 0xAA;
     double value = 0.0;
     size_t index, count;
-    HOLDS(eml_eval_real(list, length, node, point, 1, &kind, &value, &index, &count) == 0 && kind == EML_EVAL_VALUE);
+    HOLDS(eml_eval_real(list, length, node, point, 1, USUAL, &kind, &value, &index, &count) == 0 && kind == EML_EVAL_VALUE);
     return value;
 }
 
@@ -285,6 +436,9 @@ int main(int argc, char **argv) {
     deciding();
     narrowing();
     points();
+    settings();
+    other_settings();
+    refused_settings();
     building();
     numbers();
     intervals();

@@ -8,10 +8,11 @@
  * bounds of eml_solve_to; and what a call writes must not overlap anything else that it was lent. The contents may be anything:
  * what is not sound is refused.
  *
- * A call that can refuse returns 0, or one of document 01's numbers (EML_REFUSED_HEADER and on); a refusal writes nothing.
+ * A call that can refuse returns 0, or the number of a refusal (EML_REFUSED_HEADER and on); a refusal writes nothing.
  *
  * Calls given records (`nodes` of 16 bytes each, `constraints` of 24, as in a house file) test them first, in the file's
- * order, and refuse with 2 to 7 as the reader does. The numbers named at a call come after these.
+ * order, and refuse with 2 to 7 as the reader does. The numbers named at a call come after these, in the order in which they
+ * are named.
  */
 #ifndef EML_H
 #define EML_H
@@ -64,7 +65,8 @@ enum {
 
 /*
  * Byte 0 of a constraint's record; its argument is at 4, and the range of a quantifier, lo and hi, at 8 and at 16. Records are
- * in postorder: one that takes others comes after them. What a kind says is as the check tests it.
+ * in postorder: one that takes others comes after them. What a kind says is as the check tests it under the usual settings: the
+ * 1e-8 is their equality tolerance, and the 1e-12 is their slack. Under others it is theirs (eml_settings).
  */
 enum {
     EML_KIND_EQ_ZERO = 0, /* of the node that the argument names: |v| < 1e-8, v being its value */
@@ -80,7 +82,7 @@ enum {
     EML_KIND_EXISTS = 10  /* takes the last one, which holds with that variable at one of these */
 };
 
-/* What a call that can refuse returns, when it does. The writer of a file can cause 1 to 7, the caller 8 to 10. */
+/* What a call that can refuse returns, when it does. The writer of a file can cause 1 to 7, the caller 8 to 10 and 14. */
 enum {
     EML_REFUSED_HEADER = 1,
     EML_REFUSED_LAYOUT = 2,
@@ -91,10 +93,11 @@ enum {
     EML_REFUSED_NESTING = 7,
     EML_REFUSED_LIMIT_OR_TOLERANCE = 8,
     EML_REFUSED_BOXES = 9,
-    EML_REFUSED_TOO_SHORT = 10
+    EML_REFUSED_TOO_SHORT = 10,
+    EML_REFUSED_PARAMETER = 14
 };
 
-/* Document 01's words for what such a call returned. */
+/* The words for what such a call returned. */
 static inline const char *eml_refusal_text(uint8_t refusal) {
     switch (refusal) {
     case 0: return "not refused";
@@ -108,9 +111,49 @@ static inline const char *eml_refusal_text(uint8_t refusal) {
     case EML_REFUSED_LIMIT_OR_TOLERANCE: return "limit above 1,000,000 or NaN tolerance";
     case EML_REFUSED_BOXES: return "over 16 boxes or variables, or an unsound box or range";
     case EML_REFUSED_TOO_SHORT: return "output slice or node list too short";
-    default: return "no number of document 01";
+    case EML_REFUSED_PARAMETER: return "a parameter outside its range";
+    default: return "no number of a refusal";
     }
 }
+
+/* ---- settings */
+
+/*
+ * The numbers of document 01 that a caller may change. Each call that uses one of them gets all four, by value, and takes
+ * document 01's steps with them. After the file or the records, and before all else that it was given, it tests them, and
+ * refuses with 14 where one is outside its range or a NaN, also where it would not use that one. An imaginary part below 1e-12
+ * still counts as none, and the 1e-12 in the residual of a Not stays too.
+ */
+typedef struct eml_settings {
+    /* Narrowing goes over the constraint until nothing changes, but at most so often: 1 to 100. */
+    size_t rounds;
+    /* The equality tolerance, above the slack and finite: EML_KIND_EQ_ZERO passes the check where |v| < equality. */
+    double equality;
+    /*
+     * The slack, above 0. In the check, EML_KIND_GE_ZERO passes where v >= -slack, EML_KIND_LE_ZERO where v <= slack, and
+     * EML_KIND_NE_ZERO where |v| > slack. In narrowing, EML_KIND_NE_ZERO is a conflict where v's range is narrower than the slack
+     * and its lower end is nearer to 0 than that; and a variable's range stays as it was where neither end would move inward by
+     * more than the slack, but for the step off 0 of EML_KIND_NE_ZERO.
+     */
+    double slack;
+    /*
+     * The clamp, 1 to 709. At a point, exp of an argument above it is exp(clamp), and of one below its negative exp(-clamp).
+     * Narrowing does not clamp. Since x - y is made as exp(ln(x)) - ln(exp(y)), a y above the clamp counts there as the clamp,
+     * and an x above exp(clamp) as exp(clamp).
+     */
+    double clamp;
+} eml_settings;
+
+/*
+ * Document 01's numbers: 20, 1e-8, 1e-12 and 709. To have others, change these, so that what a later version adds is as usual:
+ *
+ *   eml_settings settings = eml_usual_settings();
+ *   settings.equality = 0.001;
+ */
+eml_settings eml_usual_settings(void);
+
+/* Tests settings, as each call that gets them does: 14, or 0. */
+uint8_t eml_test_settings(eml_settings settings);
 
 /* ---- the bits of a double */
 
@@ -308,20 +351,21 @@ static inline const char *eml_stop_word(uint8_t stop) {
  * first `count` places of `point`, and its `residual` is +0. It is `exact` where there are no variables, or the limit is above
  * 0 and the box was narrower than the tolerance before any halving. Any other answer has no values, its `exact` is false, and
  * its residual is in `residual`: +inf for conflict and unsatisfied. `halvings` is how many halves were written, at most
- * `limit`. Refused with 1 to 8, and with 10 where `point` has fewer places than the constraint has variables; 16 are enough for
- * every file.
+ * `limit`. Refused with 1 to 7, 14, 8, and with 10 where `point` has fewer places than the constraint has variables; 16 are
+ * enough for every file.
  */
-uint8_t eml_solve_file(const uint8_t *file, size_t length, size_t limit, double tolerance, uint8_t *stop, bool *exact,
-                       double *residual, size_t *halvings, size_t *count, double *point, size_t point_length);
+uint8_t eml_solve_file(const uint8_t *file, size_t length, size_t limit, double tolerance, eml_settings settings,
+                       uint8_t *stop, bool *exact, double *residual, size_t *halvings, size_t *count, double *point,
+                       size_t point_length);
 
 /*
  * Solves records in the box of the bounds, given by their lower and upper ends; a missing bound is [-10,10], a surplus one
- * unused. Answers as eml_solve_file. Refused with 8, 9 (also where the two lists differ in length) and 10.
+ * unused. Answers as eml_solve_file. Refused with 14, 8, 9 (also where the two lists differ in length) and 10.
  */
 uint8_t eml_solve(const uint8_t *nodes, size_t nodes_length, const uint8_t *constraints, size_t constraints_length,
                   const double *lo, size_t lo_length, const double *hi, size_t hi_length, size_t limit, double tolerance,
-                  uint8_t *stop, bool *exact, double *residual, size_t *halvings, size_t *count, double *point,
-                  size_t point_length);
+                  eml_settings settings, uint8_t *stop, bool *exact, double *residual, size_t *halvings, size_t *count,
+                  double *point, size_t point_length);
 
 /* An answer of the solver, with room for every point. */
 typedef struct eml_solution {
@@ -335,20 +379,21 @@ typedef struct eml_solution {
 
 /* eml_solve_file, with the answer in one place; so nothing is refused with 10. */
 static inline uint8_t eml_solve_file_to(const uint8_t *file, size_t length, size_t limit, double tolerance,
-                                        eml_solution *to) {
-    return eml_solve_file(file, length, limit, tolerance, &to->stop, &to->exact, &to->residual, &to->halvings, &to->count,
-                          to->point, EML_MOST_VALUES);
+                                        eml_settings settings, eml_solution *to) {
+    return eml_solve_file(file, length, limit, tolerance, settings, &to->stop, &to->exact, &to->residual, &to->halvings,
+                          &to->count, to->point, EML_MOST_VALUES);
 }
 
 /* eml_solve, with the answer in one place; so nothing is refused with 10. A list of bounds that is empty may be NULL. */
 static inline uint8_t eml_solve_to(const uint8_t *nodes, size_t nodes_length, const uint8_t *constraints,
                                    size_t constraints_length, const double *lo, size_t lo_length, const double *hi,
-                                   size_t hi_length, size_t limit, double tolerance, eml_solution *to) {
+                                   size_t hi_length, size_t limit, double tolerance, eml_settings settings,
+                                   eml_solution *to) {
     const double none = 0.0; /* lent for an empty list, which is not read */
     lo = lo_length == 0 ? &none : lo;
     hi = hi_length == 0 ? &none : hi;
     return eml_solve(nodes, nodes_length, constraints, constraints_length, lo, lo_length, hi, hi_length, limit, tolerance,
-                     &to->stop, &to->exact, &to->residual, &to->halvings, &to->count, to->point, EML_MOST_VALUES);
+                     settings, &to->stop, &to->exact, &to->residual, &to->halvings, &to->count, to->point, EML_MOST_VALUES);
 }
 
 /* ---- decisions */
@@ -359,20 +404,20 @@ enum { EML_TRUE = 0, EML_TRUE_WITH_WITNESS = 1, EML_FALSE_WITH_COUNTEREXAMPLE = 
 /*
  * Whether the constraint holds for every value of variable `var` in [lo, hi]: EML_TRUE where propagation of its negation
  * meets a conflict, which is no proof; else by five samples, which have the other variables of `num_vars` at 0, in order: lo, hi,
- * the middle, and a tenth from either end. The counterexample is in the first `count` places of `point`. Refused with 9 for over
- * 16 variables or an unsound range, and with 10 where `point` has fewer than `num_vars` places.
+ * the middle, and a tenth from either end. The counterexample is in the first `count` places of `point`. Refused with 14, with
+ * 9 for over 16 variables or an unsound range, and with 10 where `point` has fewer than `num_vars` places.
  */
 uint8_t eml_decide_forall(const uint8_t *nodes, size_t nodes_length, const uint8_t *constraints, size_t constraints_length,
-                          size_t var, double lo, double hi, size_t num_vars, uint8_t *verdict, size_t *count, double *point,
-                          size_t point_length);
+                          size_t var, double lo, double hi, size_t num_vars, eml_settings settings, uint8_t *verdict,
+                          size_t *count, double *point, size_t point_length);
 
 /*
  * Whether it holds for some value, by five samples in order: the middle, lo, hi, and a quarter from either end; the point is the
  * witness. Refused as eml_decide_forall is.
  */
 uint8_t eml_decide_exists(const uint8_t *nodes, size_t nodes_length, const uint8_t *constraints, size_t constraints_length,
-                          size_t var, double lo, double hi, size_t num_vars, uint8_t *verdict, size_t *count, double *point,
-                          size_t point_length);
+                          size_t var, double lo, double hi, size_t num_vars, eml_settings settings, uint8_t *verdict,
+                          size_t *count, double *point, size_t point_length);
 
 /* ---- narrowing */
 
@@ -387,14 +432,15 @@ enum { EML_PROP_CHANGED = 0, EML_PROP_STABLE = 1, EML_PROP_CONFLICT = 2 };
 
 /*
  * Narrows boxes, one for each variable, given by their lower and upper ends; a variable beyond them is [-10,10]. What was
- * written before a conflict stays. Refused with 9, also where the two lists differ in length.
+ * written before a conflict stays. Refused with 14, and with 9, also where the two lists differ in length.
  */
 uint8_t eml_propagate(const uint8_t *nodes, size_t nodes_length, const uint8_t *constraints, size_t constraints_length,
-                      double *lo, size_t lo_length, double *hi, size_t hi_length, uint8_t *answer);
+                      eml_settings settings, double *lo, size_t lo_length, double *hi, size_t hi_length, uint8_t *answer);
 
 /* The same on one list of intervals, which it alters. */
 uint8_t eml_propagate_intervals(const uint8_t *nodes, size_t nodes_length, const uint8_t *constraints,
-                                size_t constraints_length, eml_interval *boxes, size_t boxes_length, uint8_t *answer);
+                                size_t constraints_length, eml_settings settings, eml_interval *boxes,
+                                size_t boxes_length, uint8_t *answer);
 
 /*
  * The first `num_vars` bounds, given by their lower and upper ends, with [-10,10] for a missing one, to the first places of
@@ -432,18 +478,19 @@ enum {
 /*
  * A node's value at a point, to `value`; a complex result has the magnitude of its imaginary part there. A variable out of
  * bounds has its number in `index` and the number of the point's values in `count`. A place that the answer has nothing for
- * stays. Only the nodes are tested, with 2 to 4; then 3 is for no such node, and 9 for a point of over 16 values.
+ * stays. Only the nodes are tested, with 2 to 4; then 3 is for no such node, 14 for the settings, and 9 for a point of over 16
+ * values.
  */
 uint8_t eml_eval_real(const uint8_t *nodes, size_t nodes_length, size_t node, const double *point, size_t point_length,
-                      uint8_t *kind, double *value, size_t *index, size_t *count);
+                      eml_settings settings, uint8_t *kind, double *value, size_t *index, size_t *count);
 
-/* Whether a point passes the check, to `passes`. Refused with 9 for a point of over 16 values. */
+/* Whether a point passes the check, to `passes`. Refused with 14, and with 9 for a point of over 16 values. */
 uint8_t eml_check(const uint8_t *nodes, size_t nodes_length, const uint8_t *constraints, size_t constraints_length,
-                  const double *point, size_t point_length, bool *passes);
+                  const double *point, size_t point_length, eml_settings settings, bool *passes);
 
-/* A point's residual, to `out`. Refused with 9 for a point of over 16 values. */
+/* A point's residual, to `out`. Refused with 14, and with 9 for a point of over 16 values. */
 uint8_t eml_residual(const uint8_t *nodes, size_t nodes_length, const uint8_t *constraints, size_t constraints_length,
-                     const double *point, size_t point_length, double *out);
+                     const double *point, size_t point_length, eml_settings settings, double *out);
 
 /* ---- an interval's methods, on its ends; they refuse nothing. An interval as the result is written to `low` and `high`. */
 

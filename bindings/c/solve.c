@@ -31,7 +31,7 @@ int main(int argc, char **argv) {
     fclose(stream);
 
     eml_solution solution;
-    uint8_t refusal = eml_solve_file_to(file, length, 10000, 1e-8, &solution);
+    uint8_t refusal = eml_solve_file_to(file, length, 10000, 1e-8, eml_usual_settings(), &solution);
     if (refusal != 0) {
         printf("refused %u\n", (unsigned)refusal);
     } else {

@@ -5,8 +5,7 @@
 //!
 //! # Errors
 //!
-//! Records are tested first, 2 to 7; then settings, 14; then 8, 9 and 10 as far as a call has them. `eml.h` names those of
-//! each call.
+//! Records are tested first, 2 to 7; then 14, 8, 9 and 10 as far as a call has them. `eml.h` names those of each call.
 
 #![allow(unsafe_code)]
 #![deny(clippy::undocumented_unsafe_blocks)]
@@ -16,7 +15,8 @@ use crate::{Interval, Records, Refusal, Settings};
 
 // What holds of every call below: a pointer and its length are those of one slice, which lives and, where it is written, is lent
 // to nobody else until the call returns. The library takes every content, reads and writes within the slices and the places
-// that it is lent, and keeps none of them. The lines at the calls say which slices and places these are.
+// that it is lent, and keeps none of them. The lines at the calls say which slices and places these are. Settings go by value; the
+// library has them as a usize and three f64, and so has `Settings`, by its `repr(C)`.
 
 /// Tests a file.
 pub fn read(file: &[u8]) -> Result<(), Refusal> {

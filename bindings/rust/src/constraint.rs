@@ -4,7 +4,9 @@ use crate::Interval;
 use crate::format::{CONSTRAINT_BYTES, f64_at, u32_at};
 use crate::numbered::try_from_number;
 
-/// What an atom says of its node's value v, as the check tests it. Its number is the kind of the atom's record.
+/// What an atom says of its node's value v, as the check tests it with document 01's numbers. Under other
+/// [`Settings`](crate::Settings) the 1e-8 is their equality tolerance and the 1e-12 their slack. Its number is the kind of the
+/// atom's record.
 #[derive(Clone, Copy, Debug, PartialEq, Eq, Hash)]
 #[repr(u8)]
 pub enum Relation {

@@ -85,11 +85,11 @@ impl<'a> Problem<'a> {
         self.solve_with(limit, tolerance, Settings::default())
     }
 
-    /// [`solve`](Self::solve) under settings.
+    /// [`solve`](Self::solve) under settings. [`Settings`] has an example.
     ///
     /// # Errors
     ///
-    /// 14; then 8.
+    /// As there, with 14 before 8.
     pub fn solve_with(
         &self,
         limit: usize,
@@ -113,7 +113,7 @@ pub fn solve_file(file: &[u8], limit: usize, tolerance: f64) -> Result<Solution,
 ///
 /// # Errors
 ///
-/// 1 to 7; then 14, and 8.
+/// 1 to 7, 14 and 8, in this order.
 pub fn solve_file_with(
     file: &[u8],
     limit: usize,

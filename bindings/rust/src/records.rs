@@ -106,11 +106,25 @@ impl<'a> Records<'a> {
         self.eval_real_with(node, point, Settings::default())
     }
 
-    /// [`eval_real`](Self::eval_real) under settings.
+    /// [`eval_real`](Self::eval_real) under settings, of which it uses the clamp.
+    ///
+    /// ```
+    /// use eml::{Evaluation, Node, Records, Settings, maths};
+    ///
+    /// // exp(v0) - ln(1).
+    /// let nodes = [Node::Var(0), Node::One, Node::Eml { left: 0, right: 1 }];
+    /// let nodes = nodes.map(Node::to_bytes).concat();
+    /// let records = Records { nodes: &nodes, constraints: &[] };
+    /// let mut settings = Settings::default();
+    /// settings.clamp = 2.0;
+    /// let clamped = Evaluation::Value(maths::exp(2.0));
+    /// assert_eq!(records.eval_real_with(2, &[3.0], settings)?, clamped);
+    /// # Ok::<(), eml::Refusal>(())
+    /// ```
     ///
     /// # Errors
     ///
-    /// As there; and 14 before 9.
+    /// As there, with 14 before 9.
     pub fn eval_real_with(
         &self,
         node: usize,
@@ -142,11 +156,11 @@ impl<'a> Records<'a> {
         self.check_with(point, Settings::default())
     }
 
-    /// [`check`](Self::check) under settings.
+    /// [`check`](Self::check) under settings, of which it uses all but the rounds. [`Settings`] has an example.
     ///
     /// # Errors
     ///
-    /// As there; and 14 before 9.
+    /// As there, with 14 before 9.
     pub fn check_with(&self, point: &[f64], settings: Settings) -> Result<bool, Refusal> {
         let mut passes = false;
         calls::check(*self, point, settings, &mut passes)?;
@@ -182,11 +196,11 @@ impl<'a> Records<'a> {
         self.check_midpoint_with(bounds, Settings::default())
     }
 
-    /// [`check_midpoint`](Self::check_midpoint) under settings.
+    /// [`check_midpoint`](Self::check_midpoint) by [`check_with`](Self::check_with).
     ///
     /// # Errors
     ///
-    /// As there; and 14 before 9.
+    /// As there, with 14 before 9.
     pub fn check_midpoint_with(
         &self,
         bounds: &[Interval],
@@ -220,11 +234,11 @@ impl<'a> Records<'a> {
         self.residual_with(point, Settings::default())
     }
 
-    /// [`residual`](Self::residual) under settings.
+    /// [`residual`](Self::residual) under settings, of which it uses the clamp.
     ///
     /// # Errors
     ///
-    /// As there; and 14 before 9.
+    /// As there, with 14 before 9.
     pub fn residual_with(&self, point: &[f64], settings: Settings) -> Result<f64, Refusal> {
         let mut out = 0.0;
         calls::residual(*self, point, settings, &mut out)?;
@@ -282,11 +296,24 @@ impl<'a> Records<'a> {
         self.propagate_with(boxes, Settings::default())
     }
 
-    /// [`propagate`](Self::propagate) under settings.
+    /// [`propagate`](Self::propagate) under settings, of which it uses the rounds and the slack.
+    ///
+    /// ```
+    /// use eml::{Constraint, Interval, Node, Propagation, Records, Relation, Settings};
+    ///
+    /// // Variable 0 is at least 0; no end is moved by a thousandth or less.
+    /// let least = Constraint::Atom { relation: Relation::GeZero, node: 0 };
+    /// let records = Records { nodes: &Node::Var(0).to_bytes(), constraints: &least.to_bytes() };
+    /// let settings = Settings::new(20, 0.01, 0.001, 709.0)?;
+    /// let mut boxes = [Interval::new(-0.0005, 1.0)];
+    /// assert_eq!(records.propagate_with(&mut boxes, settings)?, Propagation::Stable);
+    /// assert_eq!(records.propagate(&mut boxes)?, Propagation::Changed);
+    /// # Ok::<(), eml::Refusal>(())
+    /// ```
     ///
     /// # Errors
     ///
-    /// As there; and 14 before 9.
+    /// As there, with 14 before 9.
     pub fn propagate_with(
         &self,
         boxes: &mut [Interval],
@@ -317,11 +344,11 @@ impl<'a> Records<'a> {
         self.propagate_ends_with(lo, hi, Settings::default())
     }
 
-    /// [`propagate_ends`](Self::propagate_ends) under settings.
+    /// [`propagate_with`](Self::propagate_with) on two lists of ends.
     ///
     /// # Errors
     ///
-    /// As there; and 14 before 9.
+    /// As [`propagate_ends`](Self::propagate_ends), with 14 before 9.
     pub fn propagate_ends_with(
         &self,
         lo: &mut [f64],
@@ -359,11 +386,11 @@ impl<'a> Records<'a> {
         self.solve_with(bounds, limit, tolerance, Settings::default())
     }
 
-    /// [`solve`](Self::solve) under settings.
+    /// [`solve`](Self::solve) under settings. [`Settings`] has an example.
     ///
     /// # Errors
     ///
-    /// As there; and 14 before 8.
+    /// As there, with 14 before 8.
     pub fn solve_with(
         &self,
         bounds: &[Interval],
@@ -409,7 +436,7 @@ impl<'a> Records<'a> {
     ///
     /// # Errors
     ///
-    /// As there; and 14 before [`NoSuchVariable`](DecisionError::NoSuchVariable).
+    /// As there, with 14 before [`NoSuchVariable`](DecisionError::NoSuchVariable).
     pub fn decide_forall_with(
         &self,
         var: usize,
@@ -446,7 +473,7 @@ impl<'a> Records<'a> {
         self.decide_exists_with(var, range, Settings::default())
     }
 
-    /// [`decide_exists`](Self::decide_exists) under settings.
+    /// [`decide_exists`](Self::decide_exists) under settings, of which it uses all but the rounds.
     ///
     /// # Errors
     ///

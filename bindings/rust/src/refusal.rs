@@ -1,12 +1,12 @@
-//! Document 01's refusals.
+//! The refusals.
 
 use crate::numbered::{LIBRARY, try_from_number};
 use core::fmt;
 
-/// Why a call was refused: document 01's numbers 1 to 10.
+/// Why a call was refused: document 01's numbers 1 to 10, and 14, which is for [`Settings`](crate::Settings).
 ///
-/// The writer of a file can cause 1 to 7, the caller 8 to 10. Of several, the first in document 01's order is returned,
-/// and a refusal alters nothing that the call was lent.
+/// The writer of a file can cause 1 to 7, the caller 8 to 10 and 14. Of several, the first is returned in the order 1 to 7, 14,
+/// 8, 9, 10, and a refusal alters nothing that the call was lent.
 ///
 /// ```
 /// use eml::{Problem, Refusal};
@@ -50,13 +50,13 @@ try_from_number!(
 );
 
 impl Refusal {
-    /// Document 01's number.
+    /// The number.
     #[must_use]
     pub fn number(self) -> u8 {
         self as u8
     }
 
-    /// Document 01's words for the number.
+    /// The words for the number.
     #[must_use]
     pub fn text(self) -> &'static str {
         match self {

@@ -2,29 +2,82 @@
 
 use crate::{Refusal, calls};
 
-/// The four numbers that narrowing and the check go by, which every call that uses one of them receives.
+/// The numbers of document 01 that a caller may change. [`Settings::default`] has document 01's, by which
+/// [`Records::solve`](crate::Records::solve) and the other calls go; the twin of each, `solve_with` and so on, receives settings
+/// and takes document 01's steps with them. An imaginary part below 1e-12 still counts as none, and the 1e-12 in the residual of
+/// a Not stays too.
 ///
-/// [`Settings::default`] has document 01's.
+/// An assignment passes the check under the settings that it was found under, not always under others:
+///
+/// ```
+/// use eml::{Problem, Settings, Stop};
+///
+/// // exp(v0) = ln(v1), to 1e-8, and to a thousandth.
+/// let file = std::fs::read("../../examples/two_bars.emlq")?;
+/// let problem = Problem::from_bytes(&file)?;
+/// assert_eq!(problem.solve(20, 1e-8)?.stop, Stop::Limit);
+/// let mut settings = Settings::default();
+/// settings.equality = 0.001;
+/// let solution = problem.solve_with(20, 1e-8, settings)?;
+/// assert_eq!((solution.stop, solution.halvings), (Stop::Assignment, 14));
+/// let point = solution.assignment().expect("it is one");
+/// assert!(problem.records().check_with(point, settings)?);
+/// assert!(!problem.records().check(point)?);
+/// # Ok::<(), Box<dyn std::error::Error>>(())
+/// ```
+///
+/// After the file or the records, and before all else that it was given, a call tests them, and refuses with 14 where a number
+/// is outside its range or a NaN, also one that it would not use:
+///
+/// ```
+/// use eml::{Constraint, Node, Records, Refusal, Relation, Settings};
+///
+/// // Variable 0 is above 0: GtZero has no slack.
+/// let above = Constraint::Atom { relation: Relation::GtZero, node: 0 };
+/// let records = Records { nodes: &Node::Var(0).to_bytes(), constraints: &above.to_bytes() };
+/// let mut settings = Settings::default();
+/// settings.slack = settings.equality;
+/// assert_eq!(records.check_with(&[0.5], settings), Err(Refusal::Parameter));
+/// ```
 #[derive(Clone, Copy, Debug, PartialEq)]
 #[non_exhaustive]
 #[repr(C)]
 pub struct Settings {
-    /// The most rounds of narrowing: 1 to 100. Document 01's is 20.
+    /// Narrowing goes over the constraint until nothing changes, but at most so often: 1 to 100. Document 01's is 20.
     pub rounds: usize,
-    /// The equality tolerance: above the slack, and finite. Document 01's is 1e-8.
+    /// The equality tolerance, above the slack and finite: [`EqZero`](crate::Relation::EqZero) passes the check where
+    /// |v| < `equality`. Document 01's is 1e-8.
     pub equality: f64,
-    /// The slack: above 0, and below the equality tolerance. Document 01's is 1e-12.
+    /// The slack, above 0. Document 01's is 1e-12.
+    ///
+    /// In the check, [`GeZero`](crate::Relation::GeZero) passes where v >= -`slack`, [`LeZero`](crate::Relation::LeZero) where
+    /// v <= `slack`, and [`NeZero`](crate::Relation::NeZero) where |v| > `slack`. In narrowing, `NeZero` is a conflict where v's
+    /// range is narrower than the slack and its lower end is nearer to 0 than that; and a variable's range stays as it was where
+    /// neither end would move inward by more than the slack, but for the step off 0 of `NeZero`.
     pub slack: f64,
-    /// The clamp of exp's argument: 1 to 709. Document 01's is 709.
+    /// The clamp, 1 to 709. Document 01's is 709.
+    ///
+    /// At a point, exp of an argument above the clamp is exp(`clamp`), and of one below its negative exp(-`clamp`). Narrowing
+    /// does not clamp. Since [`canonical::sub`](crate::canonical::sub) makes x - y as exp(ln(x)) - ln(exp(y)), a y above the
+    /// clamp counts there as the clamp, and an x above exp(`clamp`) as exp(`clamp`).
     pub clamp: f64,
 }
 
 impl Settings {
-    /// Settings that are tested.
+    /// Settings that are tested. Where only some numbers are other than the default's, change those there; the calls test them.
+    ///
+    /// ```
+    /// use eml::{Refusal, Settings};
+    ///
+    /// assert!(Settings::new(100, 0.001, 1e-12, 709.0).is_ok());
+    /// assert_eq!(Settings::new(0, 0.001, 1e-12, 709.0), Err(Refusal::Parameter));
+    /// assert_eq!(Settings::new(20, 0.001, 0.001, 709.0), Err(Refusal::Parameter));
+    /// assert_eq!(Settings::new(20, 0.001, 1e-12, 710.0), Err(Refusal::Parameter));
+    /// ```
     ///
     /// # Errors
     ///
-    /// 14 for a number outside its range.
+    /// 14.
     pub fn new(rounds: usize, equality: f64, slack: f64, clamp: f64) -> Result<Self, Refusal> {
         let settings = Self {
             rounds,
@@ -36,11 +89,11 @@ impl Settings {
         Ok(settings)
     }
 
-    /// Tests them, as every call that receives them does.
+    /// Tests them, as every call does that receives them.
     ///
     /// # Errors
     ///
-    /// 14 for a number outside its range.
+    /// 14.
     pub fn test(&self) -> Result<(), Refusal> {
         calls::test_settings(*self)
     }

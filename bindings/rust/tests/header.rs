@@ -113,6 +113,31 @@ fn the_whole_numbers() {
     }
 }
 
+/// The fields as C has them, in the package's order, and document 01's numbers.
+#[test]
+fn the_settings() {
+    let (_, rest) = HEADER
+        .split_once("typedef struct eml_settings {\n")
+        .expect("declared");
+    let (body, _) = rest.split_once("} eml_settings;\n").expect("ended");
+    let lines = body.lines().map(str::trim);
+    let fields = lines.filter(|line| !line.starts_with(['/', '*']));
+    let usual = Settings::default();
+    let text = format!("{usual:?}");
+    let names = text.split(['{', ',']).skip(1);
+    let names = names.map(|field| field.trim().split(':').next().expect("a name"));
+    let types = ["size_t", "double", "double", "double"];
+    let expected = types
+        .iter()
+        .zip(names)
+        .map(|(kind, name)| format!("{kind} {name};"));
+    assert!(fields.eq(expected));
+    let (rounds, equality, slack, clamp) = (usual.rounds, usual.equality, usual.slack, usual.clamp);
+    has(&format!(
+        "Document 01's numbers: {rounds}, {equality:e}, {slack:e} and {clamp}."
+    ));
+}
+
 #[test]
 fn the_propagations() {
     let mut seen = 0;

@@ -202,7 +202,7 @@ fn building() {
     }
 }
 
-/// Each number with document 01's words, once.
+/// Each number, once, with its words.
 #[test]
 fn refusals() {
     let all = [
@@ -216,8 +216,9 @@ fn refusals() {
         Refusal::LimitOrTolerance,
         Refusal::Boxes,
         Refusal::TooShort,
+        Refusal::Parameter,
     ];
-    for (refusal, number) in all.into_iter().zip(1..) {
+    for (refusal, number) in all.into_iter().zip((1..=10).chain([14])) {
         assert_eq!(refusal.number(), number);
         let line = format!("refused {number}: {}", refusal.text());
         assert_eq!(refusal.to_string(), line);
