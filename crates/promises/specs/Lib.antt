@@ -10,3 +10,4 @@ pub mod Demand3
 pub mod Left
 pub mod Starred
 pub mod SignOfZero
+pub mod Tuning
