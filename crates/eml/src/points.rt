@@ -20,10 +20,8 @@ pub fn eml_check(
 ) -> u8
     ensures { (result leaving final passes) ≡ placed (check_answer (tuned settings) nodes.now constraints.now point.now) (old passes) }
 {
-    put(
-        point::check_constraint(nodes, constraints, point, settings.into()),
-        passes,
-    )
+    let answer = point::check_constraint(nodes, constraints, point, settings.into());
+    put(answer, passes)
 }
 
 // The point's residual, to `out`.
@@ -36,10 +34,8 @@ pub fn eml_residual(
 ) -> u8
     ensures { (result leaving final out) ≡ placed (residual_answer (tuned settings) nodes.now constraints.now point.now) (old out) }
 {
-    put(
-        point::residual(nodes, constraints, point, settings.into()),
-        out,
-    )
+    let answer = point::residual(nodes, constraints, point, settings.into());
+    put(answer, out)
 }
 
 fn write_error(

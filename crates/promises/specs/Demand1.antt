@@ -7,7 +7,6 @@ use Prim.Native.Nat.{ℕ, zero, suc}
 use Rattle.std.specs.Prelude.{◌≡◌, Bool, List, [], Float, length, Result, Ok, Err}
 use Rattle.std.proofs.Math.Path.{refl}
 use Rattle.std.proofs.Common.{sym}
-use Rattle.std.proofs.Math.Bool.{true, false}
 use Rattle.settings.specs.Settings.{settings_refusal}
 use Rattle.settings.specs.declared.Settings.{Settings}
 use Rattle.record.specs.Leaving.{Leaving, ◌leaving◌, same_answer, same_places}

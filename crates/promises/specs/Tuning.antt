@@ -1,15 +1,14 @@
 -- Document 02 [8], tuning without a rebuild, sentence by sentence in its order. A caller gives four numbers, t, and `tuned t` is the record with them. What is
 -- said of a record σ holds of every one. Assumes nothing.
-use Rattle.std.specs.Prelude.{◌≡◌, refl, ℕ, ◌^◌, ◌≤◌, ◌/◌, ◌%◌, Bool, true, false, not, ◌&&◌, T, List, [], leb, ltb, eqb, length, get_or, set, Float, Result, Ok, Err}
-use Rattle.std.proofs.Common.{sym, ap, ◌∙◌, leb-true, arith}
+use Rattle.std.specs.Prelude.{◌≡◌, refl, ℕ, ◌^◌, ◌≤◌, ◌/◌, ◌%◌, Bool, true, false, not, ◌&&◌, T, List, [], leb, ltb, eqb, length, get_or, set, Float, Ok, Err}
+use Rattle.std.proofs.Common.{leb-true, arith}
 use borrow.Author.Tests.{le-leb}
-use Rattle.std.specs.Float.{nan}
 use Rattle.std.specs.Float.Ieee.{neg, is_nan}
 use Rattle.std.specs.Float.Ieee.Bits.{is_true}
 use Rattle.std.specs.Float.Ieee.Scale.{finite}
 use Rattle.number.specs.Notation.{when◌then◌else◌, ◌≺◌, ◌≼◌, whole, decimal}
 use Rattle.number.specs.Sign.{abs_of}
-use Rattle.number.specs.Order.{passed}
+use Rattle.number.specs.Order.{number, passed, le_right, lt→le}
 use Rattle.number.specs.Computing.{computing}
 use Rattle.maths.specs.declared.Complex.{Complex}
 use Rattle.maths.specs.Cplx.{complex_exp, complex_ln}
@@ -20,7 +19,7 @@ use Rattle.settings.specs.declared.Settings.{Settings}
 use Rattle.settings.specs.declared.Tuning.{Tuning}
 use Rattle.settings.specs.Settings.{usual, in_range, settings_refusal, tuned}
 use Rattle.interval.specs.declared.Interval.{Interval}
-use Rattle.interval.specs.Interval.{◌‥◌, is_empty, width, intersect, moves}
+use Rattle.interval.specs.Interval.{is_empty, width, intersect, moves}
 use Rattle.interval.specs.Boxes.{missing, intervals, is_domain}
 use Rattle.tree.specs.Tree.{Tree}
 use Rattle.tree.specs.Nodes.{tree_at, list_refusal}
@@ -49,7 +48,7 @@ use Rattle.promises.specs.Demand3.{file_settled, file_passes, given_settled, giv
 -- ---- the record
 -- "Put the rounds (20), the equality tolerance (1e-8), the slack (1e-12, in check, NeZero and the moved-end test) and the clamp (709) in one record that
 -- every call using them receives." Each contract names the record that its call receives. Where document 01's steps have these numbers, n standing for
--- 20, equality for 1e-8, slack for 1e-12 and clamp for 709:
+-- 20, equality for 1e-8, slack for 1e-12 and clamp for 709 (the definitions read the record in no other place):
 pub record Steps (σ : Settings) (n : ℕ) (equality slack clamp : Float) : Type 0 where
   -- "At most 20 rounds."
   pub at_most : (c : Constraint) (b : List Interval) → propagate σ c b ≡ rounds σ n c b
@@ -98,6 +97,14 @@ pub ranges_accepted : (σ : Settings) → Ranges σ → in_range σ ≡ true
 unfolding in_range
 ranges_accepted σ r =
     rw (le-leb _ _ r.rounds_are.0, le-leb _ _ r.rounds_are.1, is_true _ r.ordered.0, is_true _ r.ordered.1, is_true _ r.both_finite.0, is_true _ r.both_finite.1, is_true _ r.clamp_is.0, is_true _ r.clamp_is.1) refl
+
+-- a NaN is outside each of them
+pub no_nan : (σ : Settings) → Ranges σ → T (number σ.slack) × T (number σ.equality) × T (number σ.clamp)
+no_nan σ r = (
+  le_right (whole 0) σ.slack (lt→le (whole 0) σ.slack r.ordered.0),
+  le_right σ.slack σ.equality (lt→le σ.slack σ.equality r.ordered.1),
+  le_right (whole 1) σ.clamp r.clamp_is.0,
+)
 
 -- 01's own numbers are inside
 pub usual_accepted : in_range usual ≡ true
@@ -264,10 +271,10 @@ module _ (σ : Settings) (accepted : in_range σ ≡ true) where
     exists_01 v lo hi n room = rw taken refl
 
   pub eval_01 : (nodes : List ℕ) (k : ℕ) (p : List Float) → eval_answer σ nodes k p ≡ refused_or (
-    2 unless eqb (length nodes % 16) 0
-    or_else list_refusal nodes (length nodes / 16)
-    or_else 3 unless ltb k (length nodes / 16)
-    or_else 9 unless leb (length p) 16
-  ) Err (Ok (eval_real σ p (tree_at nodes k)))
+      2 unless eqb (length nodes % 16) 0
+      or_else list_refusal nodes (length nodes / 16)
+      or_else 3 unless ltb k (length nodes / 16)
+      or_else 9 unless leb (length p) 16
+      ) Err (Ok (eval_real σ p (tree_at nodes k)))
   unfolding eval_answer eval_refusal
   eval_01 nodes k p = rw taken refl

@@ -1,5 +1,5 @@
 -- Document 02 [8]: the record of numbers that every call using them receives.
-use Rattle.std.specs.Prelude.{ℕ, ◌^◌, Bool, ◌&&◌, leb, Float, false}
+use Rattle.std.specs.Prelude.{ℕ, ◌^◌, Bool, ◌&&◌, leb, false}
 use Rattle.std.specs.Float.Ieee.Scale.{finite}
 use Rattle.number.specs.Notation.{◌≺◌, ◌≼◌, whole, decimal}
 use Rattle.record.specs.Refusal.{◌unless◌}
