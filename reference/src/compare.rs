@@ -90,14 +90,14 @@ impl<const M: usize> Comparison<1, M> {
 /// Counts answers by refusal number, 0 being none.
 pub struct Tally {
     name: &'static str,
-    counts: [u64; 11],
+    counts: [u64; 15],
 }
 
 impl Tally {
     pub fn new(name: &'static str) -> Self {
         Self {
             name,
-            counts: [0; 11],
+            counts: [0; 15],
         }
     }
 

@@ -3,6 +3,7 @@
 
 use crate::error::EmlError;
 use crate::eval::EvalCtx;
+use crate::settings::Settings;
 use crate::smt::constraint::EmlConstraint;
 use crate::smt::helpers::{check_constraint, count_constraint_vars, evaluate_constraint_residual};
 use crate::smt::interval::{Interval, IntervalDomain, PropResult};
@@ -45,12 +46,14 @@ pub fn solve(
     bounds: &[(f64, f64)],
     limit: usize,
     tolerance: f64,
+    settings: &Settings,
 ) -> Answer {
-    let ours = steps(constraint, bounds, limit, tolerance);
+    let ours = steps(constraint, bounds, limit, tolerance, settings);
     let solver = EmlNraSolver {
         max_iterations: limit,
         tolerance,
         initial_bounds: bounds.to_vec(),
+        settings: *settings,
     };
     let agrees = match solver.solve(constraint) {
         Ok(solution) => {
@@ -82,9 +85,10 @@ fn steps(
     bounds: &[(f64, f64)],
     limit: usize,
     tolerance: f64,
+    settings: &Settings,
 ) -> Answer {
-    let passes = |point: &[f64]| check_constraint(constraint, &EvalCtx::new(point));
-    let residual = |point: &[f64]| evaluate_constraint_residual(constraint, point).abs();
+    let passes = |point: &[f64]| check_constraint(constraint, &EvalCtx::new(point, settings));
+    let residual = |point: &[f64]| evaluate_constraint_residual(constraint, point, settings).abs();
     let variables = count_constraint_vars(constraint);
     if variables == 0 {
         return if passes(&[]) {
@@ -94,7 +98,7 @@ fn steps(
         };
     }
     let mut domain = IntervalDomain::new(bounds, variables);
-    if domain.propagate(constraint) == PropResult::Conflict {
+    if domain.propagate(constraint, settings) == PropResult::Conflict {
         return failed(Stop::Conflict, f64::INFINITY, 0);
     }
     let middle = |domain: &IntervalDomain| -> Vec<f64> {
@@ -127,7 +131,7 @@ fn steps(
         } else {
             upper
         };
-        if domain.propagate(constraint) == PropResult::Conflict {
+        if domain.propagate(constraint, settings) == PropResult::Conflict {
             return failed(Stop::Conflict, f64::INFINITY, halvings);
         }
         let point = middle(&domain);

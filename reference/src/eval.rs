@@ -1,6 +1,7 @@
 // From the repository cool-japan/oxieml, commit fd90575a01, file src/eval.rs.
 // Apache License, Version 2.0; the licence is in NOTICE at the root of this repository.
-// This file was modified: evaluation by batches is left out, and `Complex64` is ours, with document 01's exp and ln.
+// This file was modified: evaluation by batches is left out, `Complex64` is ours, with document 01's exp and ln, and the clamp is
+// the settings'.
 // REPLACED.md lists every change.
 
 //! Numerical evaluation of EML trees.
@@ -9,6 +10,7 @@
 //! post-order traversal to avoid recursion depth issues on deep trees.
 
 use crate::error::EmlError;
+use crate::settings::Settings;
 use crate::standins::Complex64;
 use crate::tree::{EmlNode, EmlTree};
 
@@ -16,19 +18,18 @@ use crate::tree::{EmlNode, EmlTree};
 #[derive(Clone, Debug)]
 pub struct EvalCtx {
     vars: Vec<f64>,
+    settings: Settings,
 }
-
-/// Threshold for exp argument to prevent overflow (f64::MAX ≈ 1.8e308, exp(709.78) ≈ MAX).
-const EXP_CLAMP: f64 = 709.0;
 
 /// Threshold for imaginary part to consider result as real.
 const IMAG_THRESHOLD: f64 = 1e-12;
 
 impl EvalCtx {
     /// Create a new evaluation context with the given variable values.
-    pub fn new(vars: &[f64]) -> Self {
+    pub fn new(vars: &[f64], settings: &Settings) -> Self {
         Self {
             vars: vars.to_vec(),
+            settings: *settings,
         }
     }
 
@@ -50,6 +51,11 @@ impl EvalCtx {
     pub fn as_slice(&self) -> &[f64] {
         &self.vars
     }
+
+    /// The record that the context was made with.
+    pub fn settings(&self) -> &Settings {
+        &self.settings
+    }
 }
 
 impl EmlTree {
@@ -61,7 +67,7 @@ impl EmlTree {
     pub fn eval_real(&self, ctx: &EvalCtx) -> Result<f64, EmlError> {
         let complex_vars: Vec<Complex64> =
             ctx.vars.iter().map(|&v| Complex64::new(v, 0.0)).collect();
-        let result = self.eval_complex(&complex_vars)?;
+        let result = self.eval_complex(&complex_vars, &ctx.settings)?;
 
         if result.im.abs() < IMAG_THRESHOLD {
             let re = result.re;
@@ -78,7 +84,11 @@ impl EmlTree {
     ///
     /// Uses a stack-machine post-order traversal for numerical stability
     /// and to avoid stack overflow on deeply nested trees.
-    pub fn eval_complex(&self, vars: &[Complex64]) -> Result<Complex64, EmlError> {
+    pub fn eval_complex(
+        &self,
+        vars: &[Complex64],
+        settings: &Settings,
+    ) -> Result<Complex64, EmlError> {
         // Build a flattened post-order instruction list, then evaluate with a stack.
         let mut instructions = Vec::new();
         flatten_postorder(&self.root, &mut instructions);
@@ -103,7 +113,7 @@ impl EmlTree {
                 Instruction::Eml => {
                     let right = stack.pop().ok_or(EmlError::NanEncountered)?;
                     let left = stack.pop().ok_or(EmlError::NanEncountered)?;
-                    let result = eml_complex(left, right)?;
+                    let result = eml_complex(left, right, settings)?;
                     stack.push(result);
                 }
             }
@@ -138,12 +148,16 @@ fn flatten_postorder(node: &EmlNode, out: &mut Vec<Instruction>) {
 }
 
 /// Compute `eml(left, right) = exp(left) - ln(right)` for complex values.
-fn eml_complex(left: Complex64, right: Complex64) -> Result<Complex64, EmlError> {
+fn eml_complex(
+    left: Complex64,
+    right: Complex64,
+    settings: &Settings,
+) -> Result<Complex64, EmlError> {
     // Clamp real part of left to prevent exp overflow
-    let clamped_left = if left.re > EXP_CLAMP {
-        Complex64::new(EXP_CLAMP, left.im)
-    } else if left.re < -EXP_CLAMP {
-        Complex64::new(-EXP_CLAMP, left.im)
+    let clamped_left = if left.re > settings.clamp {
+        Complex64::new(settings.clamp, left.im)
+    } else if left.re < -settings.clamp {
+        Complex64::new(-settings.clamp, left.im)
     } else {
         left
     };

@@ -1,12 +1,14 @@
-//! Random problems, points and damaged files.
+//! Random problems, points, settings and damaged files.
 
 use crate::house::{
     BOUND, Bodies, CONSTRAINT, HEADER, LARGEST_END, MAX_BOUNDS, MAX_CONSTRAINTS, MAX_DEPTH,
     MAX_LEVELS, MAX_NODES, MAX_QUANTIFIERS, MAX_SIZE, MAX_VARIABLES, NODE, Node, Parts, Record,
     is_sound, kind,
 };
+use crate::settings::Settings;
 use crate::smt::interval::Interval;
 use crate::splitmix::SplitMix64;
+use crate::standins::{next_down, next_up};
 
 /// What constants and ranges are like.
 #[derive(Clone, Copy, Debug, PartialEq)]
@@ -127,6 +129,28 @@ pub fn problem(rng: &mut SplitMix64, shape: &Shape) -> Parts {
         nodes,
         constraints,
         bounds,
+    }
+}
+
+/// A problem that is narrowed for many rounds, each of which moves the ends a little: exp(x) - ln(exp(exp(x)) - ln(k)), which is above zero
+/// for a k above 1 and nearer to it the larger x is, compared with zero.
+pub fn slow_problem(rng: &mut SplitMix64) -> Parts {
+    let lo = rng.uniform(-1.0, 0.5);
+    Parts {
+        nodes: vec![
+            Node::Var(0),
+            Node::One,
+            Node::Eml(0, 1),
+            Node::Const(rng.uniform(1.01, 1.2)),
+            Node::Eml(2, 3),
+            Node::Eml(0, 4),
+        ],
+        // A decision is narrowed by the negation.
+        constraints: vec![Record::new(
+            rng.pick(&[kind::LT_ZERO, kind::LE_ZERO, kind::GT_ZERO, kind::GE_ZERO]),
+            5,
+        )],
+        bounds: vec![(lo, lo + rng.uniform(0.2, 2.0))],
     }
 }
 
@@ -525,18 +549,23 @@ fn ordered(a: f64, b: f64) -> (f64, f64) {
     if b < a { (b, a) } else { (a, b) }
 }
 
+/// A NaN of either kind and sign.
+fn nan(rng: &mut SplitMix64) -> f64 {
+    f64::from_bits(rng.pick(&[
+        0x7FF8_0000_0000_0000,
+        0xFFF8_0000_0000_0000,
+        0x7FF0_0000_0000_0001,
+        0xFFFF_FFFF_FFFF_FFFF,
+    ]))
+}
+
 /// A range that is not sound: reversed, infinite, NaN, or beyond 2^1022.
 pub fn unsound_range(rng: &mut SplitMix64) -> (f64, f64) {
     let beyond = f64::from_bits(LARGEST_END.to_bits() + 1 + rng.below(2) as u64);
     let v = rng.uniform(-5.0, 5.0);
     let a = rng.uniform(1.0, 5.0);
     let below_a = f64::from_bits(a.to_bits() - 1);
-    let nan = f64::from_bits(rng.pick(&[
-        0x7FF8_0000_0000_0000,
-        0xFFF8_0000_0000_0000,
-        0x7FF0_0000_0000_0001,
-        0xFFFF_FFFF_FFFF_FFFF,
-    ]));
+    let nan = nan(rng);
     let inf = f64::INFINITY;
     let pair = match rng.below(8) {
         // Reversed by one bit.
@@ -573,6 +602,27 @@ pub fn any_boxes(rng: &mut SplitMix64) -> Vec<(f64, f64)> {
     boxes
 }
 
+/// A problem's own boxes, or others; fewer and more than the variables too.
+pub fn boxes_about(rng: &mut SplitMix64, bounds: &[(f64, f64)], temper: Temper) -> Vec<(f64, f64)> {
+    let mut boxes = bounds.to_vec();
+    match rng.below(4) {
+        0 => boxes.truncate(rng.below(boxes.len() + 1)),
+        1 => {
+            let more = rng.below(17 - boxes.len());
+            boxes.extend((0..more).map(|_| range(rng, temper)));
+        }
+        2 => {
+            for place in &mut boxes {
+                if rng.one_in(2) {
+                    *place = range(rng, Temper::Wild);
+                }
+            }
+        }
+        _ => {}
+    }
+    boxes
+}
+
 /// A point: ordinary values, or any f64.
 pub fn point(rng: &mut SplitMix64, length: usize) -> Vec<f64> {
     let wild = rng.below(4);
@@ -583,6 +633,131 @@ pub fn point(rng: &mut SplitMix64, length: usize) -> Vec<f64> {
         _ => rng.uniform(-10.0, 10.0),
     };
     (0..length).map(|_| value(rng)).collect()
+}
+
+/// A point that is often shorter or longer than the variables.
+pub fn point_about(rng: &mut SplitMix64, variables: usize) -> Vec<f64> {
+    let length = match rng.below(6) {
+        0 => rng.below(17),
+        1 => variables.saturating_sub(1),
+        _ => variables,
+    };
+    point(rng, length)
+}
+
+/// For a decision: as many as the constraint has, or any number that is taken.
+pub fn num_vars_about(rng: &mut SplitMix64, variables: usize) -> usize {
+    if rng.one_in(3) {
+        rng.below(17)
+    } else {
+        variables
+    }
+}
+
+/// Mostly one of the variables, and now and then one beyond them.
+pub fn variable_about(rng: &mut SplitMix64, num_vars: usize) -> usize {
+    match rng.below(8) {
+        0 => num_vars + rng.below(3),
+        1 => usize::MAX - rng.below(2),
+        _ => rng.below(num_vars.max(1)),
+    }
+}
+
+/// One of the problem's ranges, or another.
+pub fn range_about(rng: &mut SplitMix64, bounds: &[(f64, f64)], temper: Temper) -> (f64, f64) {
+    if bounds.is_empty() || rng.one_in(3) {
+        range(rng, temper)
+    } else {
+        rng.pick(bounds)
+    }
+}
+
+/// A record of numbers that is taken: often such that it alters answers, and often at an edge.
+pub fn settings(rng: &mut SplitMix64) -> Settings {
+    let least = f64::from_bits(1);
+    let rounds = match rng.below(4) {
+        0 => 1 + rng.below(100),
+        _ => rng.pick(&[1, 2, 19, 21, 100]),
+    };
+    let equality = match rng.below(8) {
+        0 => f64::MAX,
+        // Patterns that are equally likely: any magnitude that has one below it.
+        1 | 2 => f64::from_bits(2 + rng.draw() % (f64::MAX.to_bits() - 1)),
+        _ => 10_f64.powf(rng.uniform(-8.0, 1.0)),
+    };
+    let below = next_down(equality);
+    let slack = match rng.below(8) {
+        0 => least,
+        1 => below,
+        2 | 3 => f64::from_bits(1 + rng.draw() % below.to_bits()),
+        _ => (equality * rng.unit()).clamp(least, below),
+    };
+    let clamp = match rng.below(8) {
+        0 | 1 => rng.pick(&[1.0, 1.5, 708.9, 709.0]),
+        2 => rng.uniform(1.0, 709.0),
+        _ => rng.uniform(1.0, 5.0),
+    };
+    Settings {
+        rounds,
+        equality,
+        slack,
+        clamp,
+    }
+}
+
+/// A record with one number outside its range, or with several.
+pub fn refused_settings(rng: &mut SplitMix64) -> Settings {
+    let mut made = settings(rng);
+    let (at, several) = (rng.below(4), rng.one_in(4));
+    for number in 0..4 {
+        if number == at || (several && rng.one_in(2)) {
+            put_outside(rng, &mut made, number);
+        }
+    }
+    made
+}
+
+fn put_outside(rng: &mut SplitMix64, made: &mut Settings, number: usize) {
+    let Settings {
+        equality, slack, ..
+    } = *made;
+    let (least, nan, inf) = (f64::from_bits(1), nan(rng), f64::INFINITY);
+    match number {
+        0 => made.rounds = rng.pick(&[0, 101, 256, (1 << 32) + 20, usize::MAX]),
+        1 => {
+            let below = next_down(slack);
+            made.equality = rng.pick(&[slack, below, 0.0, -0.0, -least, -equality, nan, inf, -inf]);
+        }
+        2 => {
+            let above = next_up(equality);
+            made.slack = rng.pick(&[equality, above, 0.0, -0.0, -least, -slack, nan, inf, -inf]);
+        }
+        _ => {
+            let (below, above) = (next_down(1.0), next_up(709.0));
+            made.clamp = rng.pick(&[below, above, 0.0, -0.0, -1.0, -709.0, 710.0, nan, inf, -inf]);
+        }
+    }
+}
+
+/// A record that is taken, one that is not, or numbers drawn one by one.
+pub fn any_settings(rng: &mut SplitMix64) -> Settings {
+    match rng.below(4) {
+        0 => refused_settings(rng),
+        1 => {
+            let edges = [1e-12, 1e-8, 1.0, 709.0];
+            let number = |rng: &mut SplitMix64| match rng.below(3) {
+                0 => rng.pick(&edges),
+                _ => rng.argument(),
+            };
+            Settings {
+                rounds: rng.below(128),
+                equality: number(rng),
+                slack: number(rng),
+                clamp: number(rng),
+            }
+        }
+        _ => settings(rng),
+    }
 }
 
 /// Bodies of a file, sound or damaged in up to three places.
@@ -1024,7 +1199,8 @@ mod tests {
             }
             let point = point(&mut rng, shape.variables);
             let last = read.trees.last();
-            let has_value = |tree: &EmlTree| tree.eval_real(&EvalCtx::new(&point)).is_ok();
+            let ctx = EvalCtx::new(&point, &Settings::default());
+            let has_value = |tree: &EmlTree| tree.eval_real(&ctx).is_ok();
             values += usize::from(last.is_some_and(has_value));
             none += usize::from(last.is_none());
         }
@@ -1057,7 +1233,7 @@ mod tests {
             let read = read_file(&parts.to_file()).unwrap();
             let mut domain = IntervalDomain::new(&read.bounds, shape.variables);
             let before = domain.vars.clone();
-            match domain.propagate(&read.constraint) {
+            match domain.propagate(&read.constraint, &Settings::default()) {
                 PropResult::Changed => changed += 1,
                 PropResult::Stable => stable += 1,
                 PropResult::Conflict if domain.vars != before => conflict_after_writing += 1,
@@ -1085,6 +1261,58 @@ mod tests {
             assert!(!is_sound(lo, hi), "{lo} {hi}");
         }
         assert!(points >= 1000);
+    }
+
+    /// Each number is below its range, in it, and above it, also with the other three in theirs.
+    #[test]
+    fn settings_are_as_named() {
+        let mut rng = SplitMix64::new(16);
+        let (mut edges, mut alone) = ([0; 8], [0; 4]);
+        for _ in 0..100_000 {
+            let taken = settings(&mut rng);
+            assert_eq!(taken.refusal(), 0, "{taken:?}");
+            let at = [
+                taken.rounds == 1,
+                taken.rounds == 100,
+                taken.equality == f64::MAX,
+                taken.equality < 1e-100,
+                taken.slack == f64::from_bits(1),
+                taken.slack == next_down(taken.equality),
+                taken.clamp == 1.0,
+                taken.clamp == 709.0,
+            ];
+            for (count, at) in edges.iter_mut().zip(at) {
+                *count += u32::from(at);
+            }
+            let refused = refused_settings(&mut rng);
+            assert_eq!(refused.refusal(), 14, "{refused:?}");
+            let usual = Settings::default();
+            let mended = [
+                Settings {
+                    rounds: usual.rounds,
+                    ..refused
+                },
+                Settings {
+                    equality: f64::MAX,
+                    ..refused
+                },
+                Settings {
+                    slack: f64::from_bits(1),
+                    ..refused
+                },
+                Settings {
+                    clamp: usual.clamp,
+                    ..refused
+                },
+            ];
+            for (count, mended) in alone.iter_mut().zip(mended) {
+                *count += u32::from(mended.refusal() == 0);
+            }
+        }
+        say(&format!(
+            "settings: 100000 taken, at their edges {edges:?}; 100000 refused, for one number {alone:?}"
+        ));
+        assert!(edges.iter().chain(&alone).all(|&n| n >= 1000));
     }
 
     /// Every number comes up often, and so do files that are read.

@@ -4,6 +4,7 @@
 use crate::compare::hex;
 use crate::counted::Answer;
 use crate::error::EmlError;
+use crate::settings::Settings;
 use crate::smt::helpers::QuantResult;
 use crate::smt::interval::PropResult;
 use eml::calls::{self, DecidePlaces, EvalPlaces, SolvePlaces};
@@ -23,6 +24,11 @@ fn refused_unless_zero<T>(number: Refusal, value: T) -> Result<T, Refusal> {
 
 /// What an output holds before a call; a refusal must leave it.
 const UNTOUCHED: u64 = 0x5A5A_5A5A_5A5A_5A5A;
+
+/// Whether a record of numbers is taken.
+pub fn test_settings(settings: &Settings) -> Result<(), Refusal> {
+    refused_unless_zero(number(calls::test_settings(settings.to_port())), ())
+}
 
 /// The number of variables of a file's constraint.
 pub fn num_vars(file: &[u8]) -> Result<u64, Refusal> {
@@ -93,13 +99,19 @@ impl From<Result<f64, EmlError>> for Evaluated {
     }
 }
 
-pub fn eval_real(nodes: &[u8], node: usize, point: &[f64]) -> Result<Evaluated, Refusal> {
+pub fn eval_real(
+    nodes: &[u8],
+    node: usize,
+    point: &[f64],
+    settings: &Settings,
+) -> Result<Evaluated, Refusal> {
     let untouched = EvalPlaces {
         kind: 255,
         ..EvalPlaces::default()
     };
     let mut to = untouched;
-    let number = number(calls::eval_real(nodes, node, point, &mut to));
+    let settings = settings.to_port();
+    let number = number(calls::eval_real(nodes, node, point, settings, &mut to));
     if number != 0 {
         assert_eq!(to, untouched);
         return Err(number);
@@ -114,11 +126,17 @@ pub fn eval_real(nodes: &[u8], node: usize, point: &[f64]) -> Result<Evaluated, 
 }
 
 /// Whether a point passes the check.
-pub fn check(nodes: &[u8], constraints: &[u8], point: &[f64]) -> Result<bool, Refusal> {
+pub fn check(
+    nodes: &[u8],
+    constraints: &[u8],
+    point: &[f64],
+    settings: &Settings,
+) -> Result<bool, Refusal> {
     let mut passes = false;
     let number = number(calls::check(
         Records { nodes, constraints },
         point,
+        settings.to_port(),
         &mut passes,
     ));
     assert!(number == 0 || !passes);
@@ -126,11 +144,17 @@ pub fn check(nodes: &[u8], constraints: &[u8], point: &[f64]) -> Result<bool, Re
 }
 
 /// A point's residual.
-pub fn residual(nodes: &[u8], constraints: &[u8], point: &[f64]) -> Result<f64, Refusal> {
+pub fn residual(
+    nodes: &[u8],
+    constraints: &[u8],
+    point: &[f64],
+    settings: &Settings,
+) -> Result<f64, Refusal> {
     let mut out = -1.0;
     let number = number(calls::residual(
         Records { nodes, constraints },
         point,
+        settings.to_port(),
         &mut out,
     ));
     assert_eq!(number == 0, out != -1.0);
@@ -151,12 +175,14 @@ pub fn bits(boxes: &[Interval]) -> Vec<String> {
 pub fn propagate(
     nodes: &[u8],
     constraints: &[u8],
+    settings: &Settings,
     lo: &mut [f64],
     hi: &mut [f64],
 ) -> Result<PropResult, Refusal> {
     let mut answer = 255;
     let number = number(calls::propagate(
         Records { nodes, constraints },
+        settings.to_port(),
         lo,
         hi,
         &mut answer,
@@ -168,11 +194,13 @@ pub fn propagate(
 pub fn propagate_intervals(
     nodes: &[u8],
     constraints: &[u8],
+    settings: &Settings,
     boxes: &mut [Interval],
 ) -> Result<PropResult, Refusal> {
     let mut answer = 255;
     let number = number(calls::propagate_intervals(
         Records { nodes, constraints },
+        settings.to_port(),
         boxes,
         &mut answer,
     ));
@@ -237,23 +265,29 @@ pub fn solve_file(
     file: &[u8],
     limit: usize,
     tolerance: f64,
+    settings: &Settings,
     room: usize,
 ) -> Result<Answer, Refusal> {
-    solved(room, |to| calls::solve_file(file, limit, tolerance, to))
+    let settings = settings.to_port();
+    solved(room, |to| {
+        calls::solve_file(file, limit, tolerance, settings, to)
+    })
 }
 
 /// Solves records with bounds, given by their lower and upper ends.
 pub fn solve(
     nodes: &[u8],
     constraints: &[u8],
-    lo: &[f64],
-    hi: &[f64],
+    (lo, hi): (&[f64], &[f64]),
     limit: usize,
     tolerance: f64,
+    settings: &Settings,
     room: usize,
 ) -> Result<Answer, Refusal> {
+    let records = Records { nodes, constraints };
+    let settings = settings.to_port();
     solved(room, |to| {
-        calls::solve(Records { nodes, constraints }, lo, hi, limit, tolerance, to)
+        calls::solve(records, lo, hi, limit, tolerance, settings, to)
     })
 }
 
@@ -278,6 +312,7 @@ macro_rules! decision {
             var: usize,
             (lo, hi): (f64, f64),
             num_vars: usize,
+            settings: &Settings,
             point: &mut [f64],
         ) -> Result<QuantResult, Refusal> {
             let (verdict, count) = (255, usize::MAX);
@@ -292,6 +327,7 @@ macro_rules! decision {
                 var,
                 range,
                 num_vars,
+                settings.to_port(),
                 &mut to,
             ));
             if number != 0 {

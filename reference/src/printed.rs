@@ -3,6 +3,7 @@
 use crate::compare::hex;
 use crate::counted::{self, Answer};
 use crate::house;
+use crate::settings::Settings;
 use eml::Stop;
 
 fn lines_of(answer: &Answer) -> String {
@@ -23,7 +24,14 @@ pub fn lines(file: &[u8]) -> String {
     match house::read_file(file) {
         Err(number) => format!("refused {number}\n"),
         Ok(problem) => {
-            let answer = counted::solve(&problem.constraint, &problem.bounds, 10_000, 1e-8);
+            let settings = Settings::default();
+            let answer = counted::solve(
+                &problem.constraint,
+                &problem.bounds,
+                10_000,
+                1e-8,
+                &settings,
+            );
             lines_of(&answer)
         }
     }

@@ -10,6 +10,7 @@
 use crate::counted::{self, Answer};
 use crate::generate::{self, Shape};
 use crate::house::{self, Node, Parts, Record, kind};
+use crate::settings::Settings;
 use crate::splitmix::SplitMix64;
 use eml::Stop;
 
@@ -61,14 +62,19 @@ impl Case {
     }
 }
 
-/// What the Rust answers, after the file's own tests and those of limit and tolerance.
+/// What the Rust answers with document 01's numbers, after the file's own tests and those of limit and tolerance.
 fn answer_of(file: &[u8], limit: usize, tolerance: f64) -> Result<Answer, u8> {
     let problem = house::read_file(file)?;
     if limit > 1_000_000 || tolerance.is_nan() {
         return Err(8);
     }
-    let answer = counted::solve(&problem.constraint, &problem.bounds, limit, tolerance);
-    Ok(answer)
+    Ok(counted::solve(
+        &problem.constraint,
+        &problem.bounds,
+        limit,
+        tolerance,
+        &Settings::default(),
+    ))
 }
 
 /// GtZero of Var 0 in one box.

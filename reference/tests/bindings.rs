@@ -8,6 +8,7 @@ use reference::compare::{Tally, hex, say, text};
 use reference::counted::Answer;
 use reference::generate::{self, Shape, Temper};
 use reference::port::{self, Evaluated, bits};
+use reference::settings::Settings;
 use reference::smt::helpers::QuantResult;
 use reference::smt::interval::PropResult;
 use reference::splitmix::SplitMix64;
@@ -66,7 +67,7 @@ fn files() {
         let file = generate::any_file(&mut rng);
         let limit = rng.pick(&[0, 1, 5, 1_000_001]);
         let tolerance = rng.pick(&[1e-8, f64::INFINITY, f64::NAN]);
-        let theirs = port::solve_file(&file, limit, tolerance, 16);
+        let theirs = port::solve_file(&file, limit, tolerance, &Settings::default(), 16);
         let untested = solution(eml::solve_file(&file, limit, tolerance));
         assert_eq!(text(&untested), text(&theirs));
         let problem = Problem::from_bytes(&file).map_err(eml::Refusal::number);
@@ -101,10 +102,26 @@ fn compare_decisions(records: Records, var: usize, range: (f64, f64), decided: &
         // Refused whatever the number of variables is.
         Err(_) => 0,
     };
-    let mut places = [0.0; 16];
-    let theirs = port::decide_forall(nodes, constraints, var, range, count, &mut places);
+    let (settings, mut places) = (Settings::default(), [0.0; 16]);
+    let theirs = port::decide_forall(
+        nodes,
+        constraints,
+        var,
+        range,
+        count,
+        &settings,
+        &mut places,
+    );
     assert_eq!(text(&decision(ours[0])), text(&theirs));
-    let theirs = port::decide_exists(nodes, constraints, var, range, count, &mut places);
+    let theirs = port::decide_exists(
+        nodes,
+        constraints,
+        var,
+        range,
+        count,
+        &settings,
+        &mut places,
+    );
     assert_eq!(text(&decision(ours[1])), text(&theirs));
     decided[0] += 1;
 }
@@ -113,6 +130,7 @@ fn compare_decisions(records: Records, var: usize, range: (f64, f64), decided: &
 #[test]
 fn records() {
     let mut rng = SplitMix64::new(92);
+    let settings = Settings::default();
     let mut tally = Tally::new("bindings on records");
     let (mut counts, mut decided) = ([0_u64; 2], [0_u64; 2]);
     for _ in 0..20_000 {
@@ -135,13 +153,13 @@ fn records() {
 
         let point = generate::point(&mut rng, length);
         let passes = records.check(&point).map_err(eml::Refusal::number);
-        assert_eq!(passes, port::check(&nodes, &constraints, &point));
+        assert_eq!(passes, port::check(&nodes, &constraints, &point, &settings));
         let residual = records.residual(&point).map_err(eml::Refusal::number);
-        let theirs = port::residual(&nodes, &constraints, &point);
+        let theirs = port::residual(&nodes, &constraints, &point, &settings);
         assert_eq!(residual.map(f64::to_bits), theirs.map(f64::to_bits));
         let node = rng.below(nodes.len() / 16 + 2);
         let ours = evaluation(records.eval_real(node, &point));
-        let theirs = port::eval_real(&nodes, node, &point);
+        let theirs = port::eval_real(&nodes, node, &point, &settings);
         assert_eq!(text(&ours), text(&theirs));
 
         let mut boxes: Vec<Interval> = (0..length)
@@ -154,13 +172,13 @@ fn records() {
         }
         let (mut lo, mut hi): (Vec<f64>, Vec<f64>) = boxes.iter().map(|b| (b.lo, b.hi)).unzip();
         let limit = rng.pick(&[0, 1, 3, 1_000_001]);
-        let theirs = port::solve(&nodes, &constraints, &lo, &hi, limit, 1e-8, 16);
+        let theirs = port::solve(&nodes, &constraints, (&lo, &hi), limit, 1e-8, &settings, 16);
         let ours = solution(records.solve(&boxes, limit, 1e-8));
         assert_eq!(text(&ours), text(&theirs));
         tally.add(ours.err().unwrap_or(0));
 
         let (mut narrowed, mut low, mut high) = (boxes.clone(), lo.clone(), hi.clone());
-        let theirs = port::propagate(&nodes, &constraints, &mut lo, &mut hi);
+        let theirs = port::propagate(&nodes, &constraints, &settings, &mut lo, &mut hi);
         assert_eq!(propagation(records.propagate(&mut narrowed)), theirs);
         assert_eq!(
             propagation(records.propagate_ends(&mut low, &mut high)),
@@ -217,6 +235,99 @@ fn records() {
     assert!(decided[0] >= 12_000 && decided[1] >= 2_000);
 }
 
+/// The methods that receive a record of numbers, which is taken or refused, against the calls that receive it.
+#[test]
+fn with_settings() {
+    let mut rng = SplitMix64::new(94);
+    let mut tally = Tally::new("bindings with settings");
+    for _ in 0..20_000 {
+        let shape = Shape::narrowing(&mut rng);
+        let parts = generate::problem(&mut rng, &shape);
+        let (bodies, file) = (parts.to_bodies(), parts.to_file());
+        let (nodes, constraints) = (&bodies.nodes[..], &bodies.constraints[..]);
+        let records = Records { nodes, constraints };
+        let numbers = generate::any_settings(&mut rng);
+        let settings = numbers.to_port();
+
+        let theirs = port::solve_file(&file, 5, 1e-8, &numbers, 16);
+        let ours = solution(eml::solve_file_with(&file, 5, 1e-8, settings));
+        assert_eq!(text(&ours), text(&theirs));
+        let problem = Problem::from_bytes(&file).expect("accepted");
+        let ours = solution(problem.solve_with(5, 1e-8, settings));
+        assert_eq!(text(&ours), text(&theirs));
+        tally.add(ours.err().unwrap_or(0));
+        let boxes: Vec<Interval> = parts.bounds.iter().map(|&ends| ends.into()).collect();
+        let ours = solution(records.solve_with(&boxes, 5, 1e-8, settings));
+        assert_eq!(text(&ours), text(&theirs));
+
+        let point = generate::point_about(&mut rng, shape.variables);
+        let node = parts.nodes.len() - 1;
+        let theirs = port::eval_real(nodes, node, &point, &numbers);
+        let ours = evaluation(records.eval_real_with(node, &point, settings));
+        assert_eq!(text(&ours), text(&theirs));
+        let theirs = port::check(nodes, constraints, &point, &numbers);
+        let ours = records.check_with(&point, settings);
+        assert_eq!(ours.map_err(eml::Refusal::number), theirs);
+        let theirs = port::residual(nodes, constraints, &point, &numbers);
+        let ours = records.residual_with(&point, settings);
+        assert_eq!(text(&ours.map_err(eml::Refusal::number)), text(&theirs));
+
+        let num_vars = problem.num_vars();
+        let domain = eml::IntervalDomain::new(&boxes, num_vars).expect("accepted");
+        let middle: Vec<f64> = domain.vars.iter().map(|v| v.midpoint()).collect();
+        let theirs = port::check(nodes, constraints, &middle, &numbers);
+        let ours = records.check_midpoint_with(&boxes, settings);
+        let ours = ours.map(|point| point.map(|point| hex(&point)));
+        let theirs = theirs.map(|passes| passes.then(|| hex(&middle)));
+        assert_eq!(ours.map_err(eml::Refusal::number), theirs);
+
+        let (mut lo, mut hi) = port::ends(&parts.bounds);
+        let (mut low, mut high, mut narrowed) = (lo.clone(), hi.clone(), boxes);
+        let theirs = port::propagate(nodes, constraints, &numbers, &mut lo, &mut hi);
+        let ours = records.propagate_ends_with(&mut low, &mut high, settings);
+        assert_eq!(propagation(ours), theirs);
+        assert_eq!((hex(&low), hex(&high)), (hex(&lo), hex(&hi)));
+        assert_eq!(
+            propagation(records.propagate_with(&mut narrowed, settings)),
+            theirs
+        );
+        let ends = low
+            .iter()
+            .zip(&high)
+            .map(|(&lo, &hi)| Interval::new(lo, hi));
+        assert_eq!(bits(&narrowed), bits(&ends.collect::<Vec<_>>()));
+
+        if num_vars > 0 {
+            let var = rng.below(num_vars);
+            let range = generate::range_about(&mut rng, &parts.bounds, shape.temper);
+            let (asked, mut places) = (Interval::from(range), [0.0; 16]);
+            let ours = records.decide_forall_with(var, asked, settings);
+            let theirs = port::decide_forall(
+                nodes,
+                constraints,
+                var,
+                range,
+                num_vars,
+                &numbers,
+                &mut places,
+            );
+            assert_eq!(text(&decision(ours)), text(&theirs));
+            let ours = records.decide_exists_with(var, asked, settings);
+            let theirs = port::decide_exists(
+                nodes,
+                constraints,
+                var,
+                range,
+                num_vars,
+                &numbers,
+                &mut places,
+            );
+            assert_eq!(text(&decision(ours)), text(&theirs));
+        }
+    }
+    tally.done(&[0, 14], 5_000);
+}
+
 /// A builder makes the same records and bounds of what is read of a problem, and a second look at a problem's box is the check of its
 /// midpoint.
 #[test]
@@ -241,7 +352,13 @@ fn built_again() {
         let domain = reference::smt::interval::IntervalDomain::new(&parts.bounds, num_vars);
         let middle: Vec<f64> = domain.vars.iter().map(|v| v.midpoint()).collect();
         let second = records.check_midpoint(&bounds).expect("accepted");
-        let passes = port::check(records.nodes, records.constraints, &middle).expect("accepted");
+        let passes = port::check(
+            records.nodes,
+            records.constraints,
+            &middle,
+            &Settings::default(),
+        )
+        .expect("accepted");
         assert_eq!(
             second.map(|point| hex(&point)),
             passes.then(|| hex(&middle))

@@ -4,12 +4,21 @@ use reference::compare::{Tally, hex, say};
 use reference::generate::{self, Shape, Temper};
 use reference::house::{self, Node, Record, kind};
 use reference::port::{self, Refusal};
+use reference::settings::Settings;
 use reference::smt::constraint::EmlConstraint;
 use reference::smt::helpers::{self, QuantResult};
 use reference::splitmix::SplitMix64;
 
-type Rust = fn(usize, f64, f64, &EmlConstraint, usize) -> QuantResult;
-type Port = fn(&[u8], &[u8], usize, (f64, f64), usize, &mut [f64]) -> Result<QuantResult, Refusal>;
+type Rust = fn(usize, f64, f64, &EmlConstraint, usize, &Settings) -> QuantResult;
+type Port = fn(
+    &[u8],
+    &[u8],
+    usize,
+    (f64, f64),
+    usize,
+    &Settings,
+    &mut [f64],
+) -> Result<QuantResult, Refusal>;
 
 const FORALL: (Rust, Port) = (helpers::decide_forall, port::decide_forall);
 const EXISTS: (Rust, Port) = (helpers::decide_exists, port::decide_exists);
@@ -36,32 +45,6 @@ fn taken_apart(result: &QuantResult) -> (usize, &[f64]) {
     }
 }
 
-/// As many as the constraint has, or any number that is taken.
-fn num_vars(rng: &mut SplitMix64, shape: &Shape) -> usize {
-    if rng.one_in(3) {
-        rng.below(17)
-    } else {
-        shape.variables
-    }
-}
-
-/// Mostly one of the variables, and now and then one beyond them.
-fn variable(rng: &mut SplitMix64, num_vars: usize) -> usize {
-    match rng.below(8) {
-        0 => num_vars + rng.below(3),
-        1 => usize::MAX - rng.below(2),
-        _ => rng.below(num_vars.max(1)),
-    }
-}
-
-fn range(rng: &mut SplitMix64, bounds: &[(f64, f64)], temper: Temper) -> (f64, f64) {
-    if bounds.is_empty() || rng.one_in(3) {
-        generate::range(rng, temper)
-    } else {
-        rng.pick(bounds)
-    }
-}
-
 /// The samples in the Rust's order.
 fn samples(exists: bool, (lo, hi): (f64, f64)) -> [f64; 5] {
     let (mid, width) = ((lo + hi) / 2.0, hi - lo);
@@ -82,9 +65,19 @@ fn compared(
     num_vars: usize,
     room: usize,
 ) -> (usize, Vec<f64>) {
-    let theirs = rust(var, lo, hi, constraint, num_vars);
+    let settings = &Settings::default();
+    let theirs = rust(var, lo, hi, constraint, num_vars, settings);
     let mut point = vec![UNTOUCHED; room];
-    let ours = port(nodes, constraints, var, (lo, hi), num_vars, &mut point).expect("accepted");
+    let ours = port(
+        nodes,
+        constraints,
+        var,
+        (lo, hi),
+        num_vars,
+        settings,
+        &mut point,
+    )
+    .expect("accepted");
     let (a, b) = (taken_apart(&theirs), taken_apart(&ours));
     let call = format!("{var} [{lo}, {hi}] of {num_vars}: {constraint:?}");
     assert_eq!((a.0, hex(a.1)), (b.0, hex(b.1)), "{call}");
@@ -107,9 +100,9 @@ fn decisions() {
         for record in &parts.constraints {
             kinds[record.kind as usize] += 1;
         }
-        let n = num_vars(&mut rng, &shape);
-        let var = variable(&mut rng, n);
-        let range = range(&mut rng, &parts.bounds, shape.temper);
+        let n = generate::num_vars_about(&mut rng, shape.variables);
+        let var = generate::variable_about(&mut rng, n);
+        let range = generate::range_about(&mut rng, &parts.bounds, shape.temper);
         let room = n + rng.below(3);
         let c = &problem.constraint;
         for (some, calls) in [(false, FORALL), (true, EXISTS)] {
@@ -203,6 +196,7 @@ fn each_sample() {
 #[test]
 fn refusals() {
     let mut rng = SplitMix64::new(72);
+    let settings = Settings::default();
     let mut tally = Tally::new("refusals of a decision");
     let mut refused = 0;
     while refused < 40_000 {
@@ -212,7 +206,7 @@ fn refusals() {
             1 => usize::MAX - rng.below(2),
             _ => rng.below(17),
         };
-        let var = variable(&mut rng, n.min(16));
+        let var = generate::variable_about(&mut rng, n.min(16));
         let (lo, hi) = if rng.one_in(4) {
             generate::unsound_range(&mut rng)
         } else {
@@ -230,7 +224,15 @@ fn refusals() {
         };
         for port in [FORALL.1, EXISTS.1] {
             let mut point = vec![UNTOUCHED; room];
-            let answer = port(&nodes, &constraints, var, (lo, hi), n, &mut point);
+            let answer = port(
+                &nodes,
+                &constraints,
+                var,
+                (lo, hi),
+                n,
+                &settings,
+                &mut point,
+            );
             let number = answer.err().unwrap_or(0);
             assert_eq!(number, expected);
             if number != 0 {

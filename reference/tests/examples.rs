@@ -4,6 +4,7 @@ use reference::canonical::Canonical;
 use reference::error::EmlError;
 use reference::eval::EvalCtx;
 use reference::house::{Node, Parts, Record, kind, read_file, read_nodes};
+use reference::settings::Settings;
 use reference::smt::constraint::{EmlConstraint, EmlSolution};
 use reference::smt::helpers::{
     QuantResult, check_constraint, decide_forall, evaluate_constraint_residual,
@@ -30,9 +31,14 @@ fn gt() -> EmlConstraint {
 /// The answer of propagation, and the bits of the box.
 fn propagate(constraint: EmlConstraint, lo: f64, hi: f64) -> (PropResult, [u64; 2]) {
     let mut domain = IntervalDomain::new(&[(lo, hi)], 1);
-    let answer = domain.propagate(&constraint);
+    let answer = domain.propagate(&constraint, &Settings::default());
     let iv = domain.vars[0];
     (answer, [iv.lo.to_bits(), iv.hi.to_bits()])
+}
+
+/// Whether a point passes the check.
+fn check(constraint: &EmlConstraint, point: &[f64]) -> bool {
+    check_constraint(constraint, &EvalCtx::new(point, &Settings::default()))
 }
 
 fn bits(lo: f64, hi: f64) -> [u64; 2] {
@@ -84,8 +90,8 @@ fn narrowing_at_zeros() {
 #[test]
 fn zeros_in_the_check() {
     let above = EmlConstraint::GtZero(EmlTree::eml(&EmlTree::one(), &var()));
-    assert!(check_constraint(&above, &EvalCtx::new(&[0.0])));
-    assert!(!check_constraint(&above, &EvalCtx::new(&[-0.0])));
+    assert!(check(&above, &[0.0]));
+    assert!(!check(&above, &[-0.0]));
 }
 
 #[test]
@@ -103,7 +109,7 @@ fn narrowing_of_and_and_or() {
 #[test]
 fn narrowing_of_not() {
     let not = EmlConstraint::Not(Box::new(gt()));
-    assert!(check_constraint(&not, &EvalCtx::new(&[-2.0])));
+    assert!(check(&not, &[-2.0]));
     assert_eq!(propagate(not.clone(), -3.0, -1.0).0, PropResult::Conflict);
     assert_eq!(propagate(not.to_nnf(), -3.0, -1.0).0, PropResult::Stable);
 }
@@ -113,14 +119,14 @@ fn narrowing_of_not() {
 #[test]
 fn narrowing_beyond_the_check() {
     let exp = EmlConstraint::GtZero(EmlTree::eml(&var(), &EmlTree::one()));
-    assert!(check_constraint(&exp, &EvalCtx::new(&[1.0])));
+    assert!(check(&exp, &[1.0]));
     assert_eq!(propagate(exp.clone(), 0.0, 709.0).0, PropResult::Stable);
     assert_eq!(propagate(exp, 0.0, 710.0).0, PropResult::Conflict);
 
-    assert!(check_constraint(&gt(), &EvalCtx::new(&[1e-16])));
+    assert!(check(&gt(), &[1e-16]));
     assert_eq!(propagate(gt(), 0.0, 1e-16).0, PropResult::Conflict);
     let lt = EmlConstraint::LtZero(var());
-    assert!(check_constraint(&lt, &EvalCtx::new(&[-1e-16])));
+    assert!(check(&lt, &[-1e-16]));
     assert_eq!(propagate(lt, -1e-16, 0.0).0, PropResult::Conflict);
 }
 
@@ -130,7 +136,7 @@ fn narrowing_beyond_the_check() {
 fn narrowing_by_a_constant() {
     let above = EmlConstraint::gt(var(), EmlTree::const_val(0.25));
     for x in [0.5, 2.0, 3.5] {
-        assert!(check_constraint(&above, &EvalCtx::new(&[x])));
+        assert!(check(&above, &[x]));
     }
     assert_eq!(propagate(above, 0.5, 3.5).0, PropResult::Conflict);
 }
@@ -139,8 +145,8 @@ fn narrowing_by_a_constant() {
 #[test]
 fn true_though_a_sample_fails() {
     let body = EmlConstraint::GtZero(EmlTree::eml(&var(), &EmlTree::const_val(5.0)));
-    assert!(!check_constraint(&body, &EvalCtx::new(&[-3.0])));
-    let decision = decide_forall(0, -3.0, 3.0, &body, 1);
+    assert!(!check(&body, &[-3.0]));
+    let decision = decide_forall(0, -3.0, 3.0, &body, 1, &Settings::default());
     assert!(matches!(decision, QuantResult::True));
 }
 
@@ -150,7 +156,7 @@ fn true_though_a_sample_fails() {
 fn comparisons_at_their_ends() {
     let passes = |c: fn(EmlTree, EmlTree) -> EmlConstraint, x: f64, y: f64| {
         let constraint = c(EmlTree::const_val(x), EmlTree::const_val(y));
-        check_constraint(&constraint, &EvalCtx::new(&[]))
+        check(&constraint, &[])
     };
     let (lt, gt) = (EmlConstraint::lt, EmlConstraint::gt);
     assert!(passes(lt, 700.0, 709.0) && !passes(gt, 700.0, 709.0));
@@ -182,7 +188,7 @@ fn exp_falls() {
 #[test]
 fn evaluation() {
     let zero = EmlTree::const_val(0.0);
-    let none = EvalCtx::new(&[]);
+    let none = EvalCtx::new(&[], &Settings::default());
     let one = EmlTree::eml(&zero, &EmlTree::one());
     assert_eq!(one.eval_real(&none), Ok(1.0));
     let complex = EmlTree::eml(&zero, &EmlTree::const_val(-1.0));
@@ -222,9 +228,10 @@ fn halving() {
 /// An empty sum is +0.
 #[test]
 fn residual_of_nothing() {
-    let and = evaluate_constraint_residual(&EmlConstraint::And(vec![]), &[]);
+    let settings = Settings::default();
+    let and = evaluate_constraint_residual(&EmlConstraint::And(vec![]), &[], &settings);
     assert_eq!(and.to_bits(), 0);
-    let or = evaluate_constraint_residual(&EmlConstraint::Or(vec![]), &[]);
+    let or = evaluate_constraint_residual(&EmlConstraint::Or(vec![]), &[], &settings);
     assert_eq!(or, f64::INFINITY);
 }
 

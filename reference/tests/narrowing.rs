@@ -2,9 +2,10 @@
 //! intervals. And `to_nnf`, record by record.
 
 use reference::compare::{Tally, hex, say};
-use reference::generate::{self, Shape, Temper};
+use reference::generate::{self, Shape};
 use reference::house::{self, Node, Parts, Record, kind};
 use reference::port::{self, bits};
+use reference::settings::Settings;
 use reference::smt::interval::{Interval, IntervalDomain, PropResult};
 use reference::splitmix::SplitMix64;
 
@@ -15,27 +16,6 @@ fn shape(rng: &mut SplitMix64) -> Shape {
         21..=250 => Shape::narrowing(rng),
         _ => Shape::small(rng),
     }
-}
-
-/// The problem's own boxes, or others; fewer and more than the variables too.
-fn boxes(rng: &mut SplitMix64, bounds: &[(f64, f64)], temper: Temper) -> Vec<(f64, f64)> {
-    let mut boxes = bounds.to_vec();
-    match rng.below(4) {
-        0 => boxes.truncate(rng.below(boxes.len() + 1)),
-        1 => {
-            let more = rng.below(17 - boxes.len());
-            boxes.extend((0..more).map(|_| generate::range(rng, temper)));
-        }
-        2 => {
-            for place in &mut boxes {
-                if rng.one_in(2) {
-                    *place = generate::range(rng, Temper::Wild);
-                }
-            }
-        }
-        _ => {}
-    }
-    boxes
 }
 
 fn listed(boxes: &[(f64, f64)]) -> Vec<eml::Interval> {
@@ -54,20 +34,31 @@ fn propagation() {
         let parts = generate::problem(&mut rng, &shape);
         let bodies = parts.to_bodies();
         let problem = house::read_records(&bodies.nodes, &bodies.constraints).expect("sound");
-        let boxes = boxes(&mut rng, &parts.bounds, shape.temper);
+        let boxes = generate::boxes_about(&mut rng, &parts.bounds, shape.temper);
         let mut domain = IntervalDomain {
             vars: boxes
                 .iter()
                 .map(|&(lo, hi)| Interval::new(lo, hi))
                 .collect(),
         };
-        let theirs = domain.propagate(&problem.constraint);
+        let theirs = domain.propagate(&problem.constraint, &Settings::default());
         let (mut lo, mut hi) = port::ends(&boxes);
         let before = (lo.clone(), hi.clone());
-        let ours = port::propagate(&bodies.nodes, &bodies.constraints, &mut lo, &mut hi);
+        let ours = port::propagate(
+            &bodies.nodes,
+            &bodies.constraints,
+            &Settings::default(),
+            &mut lo,
+            &mut hi,
+        );
         assert_eq!(ours, Ok(theirs), "{parts:?} {boxes:?}");
         let mut list = listed(&boxes);
-        let lent = port::propagate_intervals(&bodies.nodes, &bodies.constraints, &mut list);
+        let lent = port::propagate_intervals(
+            &bodies.nodes,
+            &bodies.constraints,
+            &Settings::default(),
+            &mut list,
+        );
         assert_eq!(lent, Ok(theirs), "{parts:?} {boxes:?}");
         let vars: Vec<String> = domain.vars.iter().map(|v| hex(&[v.lo, v.hi])).collect();
         assert_eq!(vars, bits(&list), "{parts:?} {boxes:?}");
@@ -98,7 +89,13 @@ fn zero_of_two_signs() {
     };
     let bodies = parts.to_bodies();
     let (mut lo, mut hi) = port::ends(&parts.bounds);
-    let answer = port::propagate(&bodies.nodes, &bodies.constraints, &mut lo, &mut hi);
+    let answer = port::propagate(
+        &bodies.nodes,
+        &bodies.constraints,
+        &Settings::default(),
+        &mut lo,
+        &mut hi,
+    );
     assert_eq!(answer, Ok(PropResult::Changed));
     assert_eq!((hex(&lo), hex(&hi)), (hex(&[0.0]), hex(&[0.0])));
 }
@@ -123,7 +120,7 @@ fn refusals() {
             other => other,
         };
         let before = (hex(&lo), hex(&hi));
-        let number = port::propagate(&nodes, &constraints, &mut lo, &mut hi)
+        let number = port::propagate(&nodes, &constraints, &Settings::default(), &mut lo, &mut hi)
             .err()
             .unwrap_or(0);
         assert_eq!(number, expected);
@@ -137,9 +134,10 @@ fn refusals() {
         };
         let mut list = listed(&boxes);
         let before = bits(&list);
-        let number = port::propagate_intervals(&nodes, &constraints, &mut list)
-            .err()
-            .unwrap_or(0);
+        let number =
+            port::propagate_intervals(&nodes, &constraints, &Settings::default(), &mut list)
+                .err()
+                .unwrap_or(0);
         assert_eq!(number, expected);
         if number != 0 {
             assert_eq!(before, bits(&list));

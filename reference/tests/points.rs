@@ -5,6 +5,7 @@ use reference::eval::EvalCtx;
 use reference::generate::{self, Shape};
 use reference::house;
 use reference::port::{self, Evaluated};
+use reference::settings::Settings;
 use reference::smt::helpers::{check_constraint, evaluate_constraint_residual};
 use reference::splitmix::SplitMix64;
 
@@ -16,16 +17,6 @@ fn shape(rng: &mut SplitMix64) -> Shape {
         21..=90 => Shape::narrowing(rng),
         _ => Shape::small(rng),
     }
-}
-
-/// A point that is often shorter or longer than the variables.
-fn point(rng: &mut SplitMix64, variables: usize) -> Vec<f64> {
-    let length = match rng.below(6) {
-        0 => rng.below(17),
-        1 => variables.saturating_sub(1),
-        _ => variables,
-    };
-    generate::point(rng, length)
 }
 
 #[test]
@@ -43,9 +34,10 @@ fn evaluation() {
         for _ in 0..4 {
             // The later nodes are the larger trees.
             let k = trees.len() - 1 - rng.below(trees.len().min(8));
-            let point = point(&mut rng, trees[k].num_vars());
-            let theirs = Evaluated::from(trees[k].eval_real(&EvalCtx::new(&point)));
-            let ours = port::eval_real(&nodes, k, &point).expect("accepted");
+            let point = generate::point_about(&mut rng, trees[k].num_vars());
+            let theirs =
+                Evaluated::from(trees[k].eval_real(&EvalCtx::new(&point, &Settings::default())));
+            let ours = port::eval_real(&nodes, k, &point, &Settings::default()).expect("accepted");
             assert_eq!(text(&ours), text(&theirs), "{parts:?} {k} {point:?}");
             kinds[match ours {
                 Evaluated::Value(_) => 0,
@@ -75,13 +67,27 @@ fn check_and_residual() {
             kinds[record.kind as usize] += 1;
         }
         for _ in 0..4 {
-            let point = point(&mut rng, shape.variables);
-            let theirs = check_constraint(&problem.constraint, &EvalCtx::new(&point));
-            let ours = port::check(&bodies.nodes, &bodies.constraints, &point);
+            let point = generate::point_about(&mut rng, shape.variables);
+            let theirs = check_constraint(
+                &problem.constraint,
+                &EvalCtx::new(&point, &Settings::default()),
+            );
+            let ours = port::check(
+                &bodies.nodes,
+                &bodies.constraints,
+                &point,
+                &Settings::default(),
+            );
             assert_eq!(ours, Ok(theirs), "{parts:?} {point:?}");
             passed += u64::from(theirs);
-            let theirs = evaluate_constraint_residual(&problem.constraint, &point);
-            let ours = port::residual(&bodies.nodes, &bodies.constraints, &point);
+            let theirs =
+                evaluate_constraint_residual(&problem.constraint, &point, &Settings::default());
+            let ours = port::residual(
+                &bodies.nodes,
+                &bodies.constraints,
+                &point,
+                &Settings::default(),
+            );
             let ours = ours.expect("accepted");
             assert!(same(ours, theirs), "{parts:?} {point:?}: {ours} {theirs}");
             assert!(ours >= 0.0);
@@ -113,8 +119,8 @@ fn refusals() {
             0 if point.len() > 16 => 9,
             other => other,
         };
-        let checked = port::check(&nodes, &constraints, &point);
-        let residual = port::residual(&nodes, &constraints, &point);
+        let checked = port::check(&nodes, &constraints, &point, &Settings::default());
+        let residual = port::residual(&nodes, &constraints, &point, &Settings::default());
         assert_eq!(checked.err().unwrap_or(0), number);
         assert_eq!(residual.err().unwrap_or(0), number);
         tally.add(number);
@@ -127,7 +133,9 @@ fn refusals() {
             Ok(_) => 0,
         };
         assert_eq!(
-            port::eval_real(&nodes, k, &point).err().unwrap_or(0),
+            port::eval_real(&nodes, k, &point, &Settings::default())
+                .err()
+                .unwrap_or(0),
             number
         );
     }

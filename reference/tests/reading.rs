@@ -7,6 +7,7 @@ use reference::eval::EvalCtx;
 use reference::generate::{self, Shape};
 use reference::house;
 use reference::port::{self, Evaluated};
+use reference::settings::Settings;
 use reference::smt::helpers::{
     check_constraint, count_constraint_vars, evaluate_constraint_residual,
 };
@@ -26,23 +27,27 @@ fn compare_read(file: &[u8], read: &house::Problem) {
     out.truncate(house::CONSTRAINT * normal.len());
     assert_eq!(out, house::constraint_bytes(&normal));
 
+    let settings = Settings::default();
     let point: [f64; house::MAX_VARIABLES] = std::array::from_fn(|i| 0.3 + 0.17 * i as f64);
     let step = 1 + read.trees.len() / 64;
     for (k, tree) in read.trees.iter().enumerate().step_by(step) {
-        let theirs = Evaluated::from(tree.eval_real(&EvalCtx::new(&point)));
-        let ours = port::eval_real(nodes, k, &point).expect("accepted");
+        let theirs = Evaluated::from(tree.eval_real(&EvalCtx::new(&point, &settings)));
+        let ours = port::eval_real(nodes, k, &point, &settings).expect("accepted");
         assert_eq!(text(&ours), text(&theirs));
     }
 
-    let theirs = check_constraint(&read.constraint, &EvalCtx::new(&point));
-    assert_eq!(port::check(nodes, constraints, &point), Ok(theirs));
-    let theirs = evaluate_constraint_residual(&read.constraint, &point);
-    let ours = port::residual(nodes, constraints, &point).expect("accepted");
+    let theirs = check_constraint(&read.constraint, &EvalCtx::new(&point, &settings));
+    assert_eq!(
+        port::check(nodes, constraints, &point, &settings),
+        Ok(theirs)
+    );
+    let theirs = evaluate_constraint_residual(&read.constraint, &point, &settings);
+    let ours = port::residual(nodes, constraints, &point, &settings).expect("accepted");
     assert_eq!(ours.to_bits(), theirs.to_bits());
 
     if step == 1 {
-        let theirs = counted::solve(&read.constraint, &read.bounds, 1, 0.0);
-        let ours = port::solve_file(file, 1, 0.0, 16).expect("accepted");
+        let theirs = counted::solve(&read.constraint, &read.bounds, 1, 0.0, &settings);
+        let ours = port::solve_file(file, 1, 0.0, &settings, 16).expect("accepted");
         assert_eq!(text(&ours), text(&theirs));
     }
 }

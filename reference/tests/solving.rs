@@ -5,6 +5,7 @@ use reference::counted;
 use reference::generate::{self, Shape};
 use reference::house;
 use reference::port;
+use reference::settings::Settings;
 use reference::smt::helpers::count_constraint_vars;
 use reference::splitmix::SplitMix64;
 
@@ -37,11 +38,26 @@ fn problems() {
             rng.pick(&LIMITS)
         };
         let tolerance = rng.pick(&TOLERANCES);
-        let theirs = counted::solve(&problem.constraint, &problem.bounds, limit, tolerance);
-        let of_file = port::solve_file(&file, limit, tolerance, 16).expect("accepted");
+        let settings = Settings::default();
+        let theirs = counted::solve(
+            &problem.constraint,
+            &problem.bounds,
+            limit,
+            tolerance,
+            &settings,
+        );
+        let of_file = port::solve_file(&file, limit, tolerance, &settings, 16).expect("accepted");
         let (lo, hi) = port::ends(&problem.bounds);
         let (nodes, constraints) = (&bodies.nodes, &bodies.constraints);
-        let of_records = port::solve(nodes, constraints, &lo, &hi, limit, tolerance, 16);
+        let of_records = port::solve(
+            nodes,
+            constraints,
+            (&lo, &hi),
+            limit,
+            tolerance,
+            &settings,
+            16,
+        );
         for ours in [of_file, of_records.expect("accepted")] {
             assert_eq!(text(&ours), text(&theirs), "{parts:?} {limit} {tolerance}");
         }
@@ -70,7 +86,7 @@ fn refusals_of_files() {
             Ok(problem) if count_constraint_vars(&problem.constraint) > room => 10,
             Ok(_) => 0,
         };
-        let ours = port::solve_file(&file, limit, tolerance, room);
+        let ours = port::solve_file(&file, limit, tolerance, &Settings::default(), room);
         assert_eq!(ours.err().unwrap_or(0), number);
         tally.add(number);
     }
@@ -99,7 +115,15 @@ fn refusals_of_records() {
             Ok(problem) if count_constraint_vars(&problem.constraint) > room => 10,
             Ok(_) => 0,
         };
-        let ours = port::solve(&nodes, &constraints, &lo, &hi, limit, 1e-8, room);
+        let ours = port::solve(
+            &nodes,
+            &constraints,
+            (&lo, &hi),
+            limit,
+            1e-8,
+            &Settings::default(),
+            room,
+        );
         assert_eq!(ours.err().unwrap_or(0), number);
         tally.add(number);
     }

@@ -7,6 +7,7 @@ use eml::{Records, maths, number};
 use reference::eval::EvalCtx;
 use reference::generate::{self, Shape};
 use reference::house::{self, Bodies, Problem};
+use reference::settings::Settings;
 use reference::smt::helpers::evaluate_constraint_residual;
 use reference::smt::interval::{Interval, IntervalDomain};
 use reference::smt::nra::EmlNraSolver;
@@ -163,13 +164,17 @@ fn case(rng: &mut SplitMix64, shape: &Shape) -> Case {
     }
 }
 
-fn value(problem: &Problem, point: &[f64]) {
+fn value(problem: &Problem, point: &[f64], settings: &Settings) {
     let tree = problem.trees.last().expect("a node");
-    black_box(tree.eval_real(&EvalCtx::new(point)).is_ok());
+    black_box(tree.eval_real(&EvalCtx::new(point, settings)).is_ok());
 }
 
-fn residual(problem: &Problem, point: &[f64]) {
-    black_box(evaluate_constraint_residual(&problem.constraint, point));
+fn residual(problem: &Problem, point: &[f64], settings: &Settings) {
+    black_box(evaluate_constraint_residual(
+        &problem.constraint,
+        point,
+        settings,
+    ));
 }
 
 /// Narrowing alters its boxes, so on both sides they are copied for each call, to a list that is there already.
@@ -181,9 +186,10 @@ fn refill<T>(list: &mut Vec<T>, problem: &Problem, of: impl Fn(f64, f64) -> T) {
 /// So that a few long runs do not outweigh the others.
 const LIMIT: usize = 100;
 
-fn solve(problem: &Problem, bounds: &[(f64, f64)]) {
+fn solve(problem: &Problem, bounds: &[(f64, f64)], settings: &Settings) {
     let solver = EmlNraSolver {
         max_iterations: LIMIT,
+        settings: *settings,
         ..EmlNraSolver::new(bounds.to_vec())
     };
     black_box(solver.solve(&problem.constraint).is_ok());
@@ -227,6 +233,9 @@ fn both_ways(
 /// Values, residuals, narrowed boxes and answers of problems like the house's, and of larger ones.
 fn solving() {
     let mut rng = SplitMix64::new(3);
+    // Document 01's numbers, as each side is given them.
+    let usual = &Settings::default();
+    let settings = usual.to_port();
     let mut many = |shape: fn(&mut SplitMix64) -> Shape| -> Vec<Case> {
         let mut cases = Vec::new();
         while cases.len() < 300 {
@@ -245,44 +254,52 @@ fn solving() {
         both_ways(
             &format!("eval, {size}"),
             &cases,
-            |problem, c| value(problem, &c.point),
+            |problem, c| value(problem, &c.point, usual),
             |c| {
                 let last = c.problem.trees.len() - 1;
-                black_box(records(c).eval_real(last, &c.point).is_ok());
+                black_box(records(c).eval_real_with(last, &c.point, settings).is_ok());
             },
         );
         both_ways(
             &format!("residual, {size}"),
             &cases,
-            |problem, c| residual(problem, &c.point),
+            |problem, c| residual(problem, &c.point, usual),
             |c| {
-                black_box(records(c).residual(&c.point).is_ok());
+                black_box(records(c).residual_with(&c.point, settings).is_ok());
             },
         );
         let mut domain = IntervalDomain { vars: Vec::new() };
         let mut narrow = |problem: &Problem, c: &Case| {
             refill(&mut domain.vars, &c.problem, Interval::new);
-            black_box(domain.propagate(&problem.constraint));
+            black_box(domain.propagate(&problem.constraint, usual));
         };
         let (mut lo, mut hi) = (Vec::new(), Vec::new());
         both_ways(&format!("propagate, {size}"), &cases, &mut narrow, |c| {
             refill(&mut lo, &c.problem, |lo, _| lo);
             refill(&mut hi, &c.problem, |_, hi| hi);
-            black_box(records(c).propagate_ends(&mut lo, &mut hi).is_ok());
+            black_box(
+                records(c)
+                    .propagate_ends_with(&mut lo, &mut hi, settings)
+                    .is_ok(),
+            );
         });
         let mut boxes = Vec::new();
         both_ways(&format!("intervals, {size}"), &cases, &mut narrow, |c| {
             refill(&mut boxes, &c.problem, |lo, hi| eml::Interval { lo, hi });
-            black_box(records(c).propagate(&mut boxes).is_ok());
+            black_box(records(c).propagate_with(&mut boxes, settings).is_ok());
         });
         both_ways(
             &format!("solve, {size}"),
             &cases,
-            |problem, c| solve(problem, &c.problem.bounds),
+            |problem, c| solve(problem, &c.problem.bounds, usual),
             |c| {
                 let bounds = c.problem.bounds.iter();
                 let bounds: Vec<_> = bounds.map(|&(lo, hi)| eml::Interval { lo, hi }).collect();
-                black_box(records(c).solve(&bounds, LIMIT, 1e-8).is_ok());
+                black_box(
+                    records(c)
+                        .solve_with(&bounds, LIMIT, 1e-8, settings)
+                        .is_ok(),
+                );
             },
         );
     }

@@ -8,6 +8,7 @@ use eml::Stop;
 use reference::canonical::Canonical;
 use reference::counted;
 use reference::eval::EvalCtx;
+use reference::settings::Settings;
 use reference::smt::constraint::EmlConstraint::{self, EqZero, GtZero, LtZero};
 use reference::smt::helpers::check_constraint;
 use reference::smt::interval::{Interval, IntervalDomain, PropResult};
@@ -105,7 +106,7 @@ fn middle((lo, hi): (f64, f64)) -> f64 {
 
 fn conflicts(constraint: &EmlConstraint, bounds: &[(f64, f64)]) -> bool {
     let mut domain = IntervalDomain::new(bounds, bounds.len());
-    domain.propagate(constraint) == PropResult::Conflict
+    domain.propagate(constraint, &Settings::default()) == PropResult::Conflict
 }
 
 /// How solving again stops: under a quantifier over a variable that the constraint does not name, nothing is narrowed.
@@ -113,7 +114,14 @@ fn stop_again(constraint: &EmlConstraint, bound: (f64, f64)) -> Stop {
     let (var, lo, hi) = (1, 0.0, 0.0);
     let body = Box::new(constraint.clone());
     let quantified = EmlConstraint::Exists { var, lo, hi, body };
-    counted::solve(&quantified, &[bound, (lo, hi)], 10_000, 1e-8).stop
+    counted::solve(
+        &quantified,
+        &[bound, (lo, hi)],
+        10_000,
+        1e-8,
+        &Settings::default(),
+    )
+    .stop
 }
 
 /// What was counted of one form.
@@ -133,7 +141,8 @@ impl Counts {
         let turn = (family.turn)(c);
         let x = EmlTree::var(0);
         let constraint = make(&EmlTree::const_val(c), &x);
-        let passes = |x: f64| check_constraint(&constraint, &EvalCtx::new(&[x]));
+        let settings = Settings::default();
+        let passes = |x: f64| check_constraint(&constraint, &EvalCtx::new(&[x], &settings));
 
         let some = (
             turn * rng.uniform(0.01, 0.99),

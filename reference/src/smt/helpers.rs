@@ -1,10 +1,12 @@
 // From the repository cool-japan/oxieml, commit fd90575a01, file src/smt/helpers.rs.
 // Apache License, Version 2.0; the licence is in NOTICE at the root of this repository.
-// This file was modified: the empty sum is document 01's, maximum and minimum are document 02's [3], and the functions are public.
+// This file was modified: the empty sum is document 01's, maximum and minimum are document 02's [3], the equality tolerance and the
+// slack are the settings', and the functions are public.
 // REPLACED.md lists every change.
 
 use super::constraint::EmlConstraint;
 use crate::eval::EvalCtx;
+use crate::settings::Settings;
 use crate::standins;
 
 // ----------------------------------------------------------------------------
@@ -12,13 +14,16 @@ use crate::standins;
 // ----------------------------------------------------------------------------
 
 pub fn check_constraint(constraint: &EmlConstraint, ctx: &EvalCtx) -> bool {
+    let settings = ctx.settings();
     match constraint {
-        EmlConstraint::EqZero(tree) => tree.eval_real(ctx).is_ok_and(|v| v.abs() < 1e-8),
+        EmlConstraint::EqZero(tree) => tree
+            .eval_real(ctx)
+            .is_ok_and(|v| v.abs() < settings.equality),
         EmlConstraint::GtZero(tree) => tree.eval_real(ctx).is_ok_and(|v| v > 0.0),
-        EmlConstraint::GeZero(tree) => tree.eval_real(ctx).is_ok_and(|v| v >= -1e-12),
+        EmlConstraint::GeZero(tree) => tree.eval_real(ctx).is_ok_and(|v| v >= -settings.slack),
         EmlConstraint::LtZero(tree) => tree.eval_real(ctx).is_ok_and(|v| v < 0.0),
-        EmlConstraint::LeZero(tree) => tree.eval_real(ctx).is_ok_and(|v| v <= 1e-12),
-        EmlConstraint::NeZero(tree) => tree.eval_real(ctx).is_ok_and(|v| v.abs() > 1e-12),
+        EmlConstraint::LeZero(tree) => tree.eval_real(ctx).is_ok_and(|v| v <= settings.slack),
+        EmlConstraint::NeZero(tree) => tree.eval_real(ctx).is_ok_and(|v| v.abs() > settings.slack),
         EmlConstraint::Not(inner) => !check_constraint(inner, ctx),
         EmlConstraint::And(constraints) => constraints.iter().all(|c| check_constraint(c, ctx)),
         EmlConstraint::Or(constraints) => constraints.iter().any(|c| check_constraint(c, ctx)),
@@ -30,7 +35,7 @@ pub fn check_constraint(constraint: &EmlConstraint, ctx: &EvalCtx) -> bool {
                 if *var < vars.len() {
                     vars[*var] = sample;
                 }
-                let inner_ctx = EvalCtx::new(&vars);
+                let inner_ctx = EvalCtx::new(&vars, settings);
                 check_constraint(body, &inner_ctx)
             })
         }
@@ -41,15 +46,19 @@ pub fn check_constraint(constraint: &EmlConstraint, ctx: &EvalCtx) -> bool {
                 if *var < vars.len() {
                     vars[*var] = sample;
                 }
-                let inner_ctx = EvalCtx::new(&vars);
+                let inner_ctx = EvalCtx::new(&vars, settings);
                 check_constraint(body, &inner_ctx)
             })
         }
     }
 }
 
-pub fn evaluate_constraint_residual(constraint: &EmlConstraint, vars: &[f64]) -> f64 {
-    let ctx = EvalCtx::new(vars);
+pub fn evaluate_constraint_residual(
+    constraint: &EmlConstraint,
+    vars: &[f64],
+    settings: &Settings,
+) -> f64 {
+    let ctx = EvalCtx::new(vars, settings);
     match constraint {
         EmlConstraint::EqZero(tree) => tree.eval_real(&ctx).unwrap_or(f64::INFINITY).abs(),
         EmlConstraint::GtZero(tree) => {
@@ -70,17 +79,17 @@ pub fn evaluate_constraint_residual(constraint: &EmlConstraint, vars: &[f64]) ->
         }
         EmlConstraint::NeZero(tree) => tree.eval_real(&ctx).unwrap_or(0.0).abs(),
         EmlConstraint::Not(inner) => {
-            let r = evaluate_constraint_residual(inner, vars);
+            let r = evaluate_constraint_residual(inner, vars, settings);
             if r < 1e-12 { 1.0 } else { 0.0 }
         }
         EmlConstraint::And(constraints) => constraints
             .iter()
-            .map(|c| evaluate_constraint_residual(c, vars))
+            .map(|c| evaluate_constraint_residual(c, vars, settings))
             .map(f64::abs)
             .fold(0.0, |sum, r| sum + r),
         EmlConstraint::Or(constraints) => constraints
             .iter()
-            .map(|c| evaluate_constraint_residual(c, vars))
+            .map(|c| evaluate_constraint_residual(c, vars, settings))
             .map(f64::abs)
             .fold(f64::INFINITY, standins::min),
         // For quantifiers: sample and aggregate residuals.
@@ -93,7 +102,7 @@ pub fn evaluate_constraint_residual(constraint: &EmlConstraint, vars: &[f64]) ->
                     if *var < v.len() {
                         v[*var] = sample;
                     }
-                    evaluate_constraint_residual(body, &v)
+                    evaluate_constraint_residual(body, &v, settings)
                 })
                 .map(f64::abs)
                 .fold(0.0_f64, standins::max)
@@ -107,7 +116,7 @@ pub fn evaluate_constraint_residual(constraint: &EmlConstraint, vars: &[f64]) ->
                     if *var < v.len() {
                         v[*var] = sample;
                     }
-                    evaluate_constraint_residual(body, &v)
+                    evaluate_constraint_residual(body, &v, settings)
                 })
                 .map(f64::abs)
                 .fold(f64::INFINITY, standins::min)
@@ -139,9 +148,6 @@ pub fn count_constraint_vars(constraint: &EmlConstraint) -> usize {
 // Quantifier decision procedures (J1)
 // ----------------------------------------------------------------------------
 
-/// Epsilon for near-zero detection in NeZero propagation.
-pub const NEZERO_EPS: f64 = 1e-12;
-
 /// Result of a quantifier decision procedure.
 #[derive(Debug)]
 pub enum QuantResult {
@@ -169,6 +175,7 @@ pub fn decide_forall(
     hi: f64,
     body: &EmlConstraint,
     num_vars: usize,
+    settings: &Settings,
 ) -> QuantResult {
     use super::interval::{IntervalDomain, PropResult};
 
@@ -179,7 +186,7 @@ pub fn decide_forall(
         bounds[var] = (lo, hi);
     }
     let mut domain = IntervalDomain::new(&bounds, num_vars);
-    if domain.propagate(&negated) == PropResult::Conflict {
+    if domain.propagate(&negated, settings) == PropResult::Conflict {
         return QuantResult::True;
     }
 
@@ -191,7 +198,7 @@ pub fn decide_forall(
         if var < num_vars {
             point[var] = sample;
         }
-        let ctx = EvalCtx::new(&point);
+        let ctx = EvalCtx::new(&point, settings);
         if !check_constraint(body, &ctx) {
             return QuantResult::FalseWithCounterexample {
                 counterexample: point,
@@ -212,6 +219,7 @@ pub fn decide_exists(
     hi: f64,
     body: &EmlConstraint,
     num_vars: usize,
+    settings: &Settings,
 ) -> QuantResult {
     let mid = (lo + hi) / 2.0;
     let samples = [mid, lo, hi, lo + 0.25 * (hi - lo), lo + 0.75 * (hi - lo)];
@@ -220,7 +228,7 @@ pub fn decide_exists(
         if var < num_vars {
             point[var] = sample;
         }
-        let ctx = EvalCtx::new(&point);
+        let ctx = EvalCtx::new(&point, settings);
         if check_constraint(body, &ctx) {
             return QuantResult::TrueWithWitness(point);
         }

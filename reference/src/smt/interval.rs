@@ -1,10 +1,11 @@
 // From the repository cool-japan/oxieml, commit fd90575a01, file src/smt/interval.rs.
 // Apache License, Version 2.0; the licence is in NOTICE at the root of this repository.
 // This file was modified: exp, ln and the neighbours of zero are document 01's,
-// maximum and minimum document 02's [3], and the functions are public.
+// maximum and minimum document 02's [3], the rounds and the slack are the settings', and the functions are public.
 // REPLACED.md lists every change.
 
 use super::constraint::EmlConstraint;
+use crate::settings::Settings;
 use crate::standins;
 use crate::tree::EmlNode;
 
@@ -152,11 +153,10 @@ impl IntervalDomain {
     ///
     /// Returns `Changed` if any variable was tightened, `Stable` if fixpoint
     /// reached without any change, `Conflict` if unsatisfiable.
-    pub fn propagate(&mut self, c: &EmlConstraint) -> PropResult {
-        const MAX_ITERATIONS: usize = 20;
+    pub fn propagate(&mut self, c: &EmlConstraint, settings: &Settings) -> PropResult {
         let mut changed_any = false;
-        for _ in 0..MAX_ITERATIONS {
-            let result = propagate_once(&mut self.vars, c);
+        for _ in 0..settings.rounds {
+            let result = propagate_once(&mut self.vars, c, settings);
             match result {
                 PropResult::Conflict => return PropResult::Conflict,
                 PropResult::Changed => {
@@ -222,6 +222,7 @@ pub fn backward_propagate(
     node: &EmlNode,
     vars: &mut [Interval],
     out_constraint: Interval,
+    settings: &Settings,
 ) -> PropResult {
     if out_constraint.is_empty() {
         return PropResult::Conflict;
@@ -237,7 +238,7 @@ pub fn backward_propagate(
             if new_iv.is_empty() {
                 return PropResult::Conflict;
             }
-            if new_iv.lo > old.lo + 1e-12 || new_iv.hi < old.hi - 1e-12 {
+            if new_iv.lo > old.lo + settings.slack || new_iv.hi < old.hi - settings.slack {
                 if idx < vars.len() {
                     vars[idx] = new_iv;
                 }
@@ -318,8 +319,8 @@ pub fn backward_propagate(
             let right_c = right_iv.intersect(&ln_r_c.ln_inv());
 
             // Recurse
-            let r_left = backward_propagate(left, vars, left_c);
-            let r_right = backward_propagate(right, vars, right_c);
+            let r_left = backward_propagate(left, vars, left_c, settings);
+            let r_right = backward_propagate(right, vars, right_c, settings);
 
             match (r_left, r_right) {
                 (PropResult::Conflict, _) | (_, PropResult::Conflict) => PropResult::Conflict,
@@ -331,7 +332,7 @@ pub fn backward_propagate(
 }
 
 /// Single-pass propagation: walk constraint, evaluate intervals, tighten.
-pub fn propagate_once(vars: &mut [Interval], c: &EmlConstraint) -> PropResult {
+pub fn propagate_once(vars: &mut [Interval], c: &EmlConstraint, settings: &Settings) -> PropResult {
     match c {
         EmlConstraint::EqZero(tree) => {
             let v = match eval_interval(&tree.root, vars) {
@@ -345,7 +346,7 @@ pub fn propagate_once(vars: &mut [Interval], c: &EmlConstraint) -> PropResult {
                 return PropResult::Conflict;
             }
             // Backward: output must be exactly 0
-            backward_propagate(&tree.root, vars, Interval::new(0.0, 0.0))
+            backward_propagate(&tree.root, vars, Interval::new(0.0, 0.0), settings)
         }
         EmlConstraint::GtZero(tree) => {
             let v = match eval_interval(&tree.root, vars) {
@@ -361,7 +362,7 @@ pub fn propagate_once(vars: &mut [Interval], c: &EmlConstraint) -> PropResult {
             // Backward: output must be > 0; tighten lower bound
             let eps = f64::EPSILON * 4.0;
             let out_c = Interval::new(standins::max(v.lo, eps), v.hi);
-            backward_propagate(&tree.root, vars, out_c)
+            backward_propagate(&tree.root, vars, out_c, settings)
         }
         EmlConstraint::GeZero(tree) => {
             let v = match eval_interval(&tree.root, vars) {
@@ -376,7 +377,7 @@ pub fn propagate_once(vars: &mut [Interval], c: &EmlConstraint) -> PropResult {
             }
             // Backward: output must be >= 0
             let out_c = Interval::new(standins::max(v.lo, 0.0), v.hi);
-            backward_propagate(&tree.root, vars, out_c)
+            backward_propagate(&tree.root, vars, out_c, settings)
         }
         EmlConstraint::LtZero(tree) => {
             let v = match eval_interval(&tree.root, vars) {
@@ -394,7 +395,7 @@ pub fn propagate_once(vars: &mut [Interval], c: &EmlConstraint) -> PropResult {
             if out_c.is_empty() {
                 return PropResult::Conflict;
             }
-            backward_propagate(&tree.root, vars, out_c)
+            backward_propagate(&tree.root, vars, out_c, settings)
         }
         EmlConstraint::LeZero(tree) => {
             let v = match eval_interval(&tree.root, vars) {
@@ -411,10 +412,9 @@ pub fn propagate_once(vars: &mut [Interval], c: &EmlConstraint) -> PropResult {
             if out_c.is_empty() {
                 return PropResult::Conflict;
             }
-            backward_propagate(&tree.root, vars, out_c)
+            backward_propagate(&tree.root, vars, out_c, settings)
         }
         EmlConstraint::NeZero(tree) => {
-            use super::helpers::NEZERO_EPS;
             let v = match eval_interval(&tree.root, vars) {
                 Some(v) => v,
                 None => return PropResult::Stable, // indeterminate ⇒ no conflict, no tightening
@@ -423,7 +423,7 @@ pub fn propagate_once(vars: &mut [Interval], c: &EmlConstraint) -> PropResult {
                 return PropResult::Conflict;
             }
             // Point interval at or near zero → Conflict.
-            if (v.hi - v.lo) < NEZERO_EPS && v.lo.abs() < NEZERO_EPS {
+            if (v.hi - v.lo) < settings.slack && v.lo.abs() < settings.slack {
                 return PropResult::Conflict;
             }
             // Try to nudge bare Var(i) lower/upper bound away from zero.
@@ -447,12 +447,12 @@ pub fn propagate_once(vars: &mut [Interval], c: &EmlConstraint) -> PropResult {
         }
         EmlConstraint::Not(inner) => {
             let nnf = (**inner).clone().to_nnf();
-            propagate_once(vars, &nnf)
+            propagate_once(vars, &nnf, settings)
         }
         EmlConstraint::And(constraints) => {
             let mut any_changed = false;
             for inner in constraints {
-                match propagate_once(vars, inner) {
+                match propagate_once(vars, inner, settings) {
                     PropResult::Conflict => return PropResult::Conflict,
                     PropResult::Changed => any_changed = true,
                     PropResult::Stable => {}
@@ -475,7 +475,7 @@ pub fn propagate_once(vars: &mut [Interval], c: &EmlConstraint) -> PropResult {
             let mut survivors: Vec<Vec<Interval>> = Vec::with_capacity(constraints.len());
             for inner in constraints {
                 let mut branch = original.clone();
-                let result = propagate_once(&mut branch, inner);
+                let result = propagate_once(&mut branch, inner, settings);
                 if result != PropResult::Conflict {
                     survivors.push(branch);
                 }
@@ -492,8 +492,8 @@ pub fn propagate_once(vars: &mut [Interval], c: &EmlConstraint) -> PropResult {
                             // Intersect with original to be sound.
                             let tightened = new_iv.intersect(orig_iv);
                             if !tightened.is_empty()
-                                && (tightened.lo > orig_iv.lo + 1e-12
-                                    || tightened.hi < orig_iv.hi - 1e-12)
+                                && (tightened.lo > orig_iv.lo + settings.slack
+                                    || tightened.hi < orig_iv.hi - settings.slack)
                             {
                                 vars[i] = tightened;
                                 any_changed = true;
@@ -519,8 +519,8 @@ pub fn propagate_once(vars: &mut [Interval], c: &EmlConstraint) -> PropResult {
                             // Intersect hull with original to never widen.
                             let tightened = hull_iv.intersect(&original[i]);
                             if !tightened.is_empty()
-                                && (tightened.lo > original[i].lo + 1e-12
-                                    || tightened.hi < original[i].hi - 1e-12)
+                                && (tightened.lo > original[i].lo + settings.slack
+                                    || tightened.hi < original[i].hi - settings.slack)
                             {
                                 vars[i] = tightened;
                                 any_changed = true;

@@ -1,6 +1,6 @@
 // From the repository cool-japan/oxieml, commit fd90575a01, file src/smt/nra.rs.
 // Apache License, Version 2.0; the licence is in NOTICE at the root of this repository.
-// This file was modified: only this notice was added.
+// This file was modified: the solver holds the settings and hands them on.
 // REPLACED.md lists every change.
 
 use super::constraint::{EmlConstraint, EmlSolution};
@@ -8,6 +8,7 @@ use super::helpers::{check_constraint, count_constraint_vars, evaluate_constrain
 use super::interval::{Interval, IntervalDomain, PropResult};
 use crate::error::EmlError;
 use crate::eval::EvalCtx;
+use crate::settings::Settings;
 
 // ----------------------------------------------------------------------------
 // EmlNraSolver (interval bisection, enhanced with propagation)
@@ -24,6 +25,8 @@ pub struct EmlNraSolver {
     pub tolerance: f64,
     /// Initial search bounds for each variable.
     pub initial_bounds: Vec<(f64, f64)>,
+    /// The record that every step receives.
+    pub settings: Settings,
 }
 
 impl Default for EmlNraSolver {
@@ -32,6 +35,7 @@ impl Default for EmlNraSolver {
             max_iterations: 10_000,
             tolerance: 1e-8,
             initial_bounds: vec![(-10.0, 10.0)],
+            settings: Settings::default(),
         }
     }
 }
@@ -47,9 +51,10 @@ impl EmlNraSolver {
 
     /// Solve a constraint system using interval propagation + bisection.
     pub fn solve(&self, constraint: &EmlConstraint) -> Result<EmlSolution, EmlError> {
+        let settings = &self.settings;
         let num_vars = count_constraint_vars(constraint);
         if num_vars == 0 {
-            let ctx = EvalCtx::new(&[]);
+            let ctx = EvalCtx::new(&[], settings);
             if check_constraint(constraint, &ctx) {
                 return Ok(EmlSolution {
                     assignments: vec![],
@@ -63,7 +68,7 @@ impl EmlNraSolver {
         }
 
         let mut domain = IntervalDomain::new(&self.initial_bounds, num_vars);
-        if domain.propagate(constraint) == PropResult::Conflict {
+        if domain.propagate(constraint, settings) == PropResult::Conflict {
             return Err(EmlError::ConvergenceFailed {
                 best_mse: f64::INFINITY,
                 iterations: 0,
@@ -72,7 +77,7 @@ impl EmlNraSolver {
 
         for _iter in 0..self.max_iterations {
             let midpoints: Vec<f64> = domain.vars.iter().map(Interval::midpoint).collect();
-            let ctx = EvalCtx::new(&midpoints);
+            let ctx = EvalCtx::new(&midpoints, settings);
             if check_constraint(constraint, &ctx) {
                 return Ok(EmlSolution {
                     assignments: midpoints,
@@ -97,18 +102,18 @@ impl EmlNraSolver {
 
                 let mut lo_point = midpoints.clone();
                 lo_point[widest] = lo_half.midpoint();
-                let lo_resid = evaluate_constraint_residual(constraint, &lo_point);
+                let lo_resid = evaluate_constraint_residual(constraint, &lo_point, settings);
 
                 let mut hi_point = midpoints;
                 hi_point[widest] = hi_half.midpoint();
-                let hi_resid = evaluate_constraint_residual(constraint, &hi_point);
+                let hi_resid = evaluate_constraint_residual(constraint, &hi_point, settings);
 
                 domain.vars[widest] = if lo_resid.abs() < hi_resid.abs() {
                     lo_half
                 } else {
                     hi_half
                 };
-                if domain.propagate(constraint) == PropResult::Conflict {
+                if domain.propagate(constraint, settings) == PropResult::Conflict {
                     return Err(EmlError::ConvergenceFailed {
                         best_mse: f64::INFINITY,
                         iterations: 0,
@@ -121,7 +126,7 @@ impl EmlNraSolver {
         }
 
         let midpoints: Vec<f64> = domain.vars.iter().map(Interval::midpoint).collect();
-        let ctx = EvalCtx::new(&midpoints);
+        let ctx = EvalCtx::new(&midpoints, settings);
         if check_constraint(constraint, &ctx) {
             Ok(EmlSolution {
                 assignments: midpoints,
@@ -129,7 +134,7 @@ impl EmlNraSolver {
             })
         } else {
             Err(EmlError::ConvergenceFailed {
-                best_mse: evaluate_constraint_residual(constraint, &midpoints).abs(),
+                best_mse: evaluate_constraint_residual(constraint, &midpoints, settings).abs(),
                 iterations: self.max_iterations,
             })
         }
