@@ -1,3 +1,4 @@
 -- Laws that several proofs cite.
+mod Floats
 mod Points
 mod Loops

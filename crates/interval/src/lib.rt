@@ -121,7 +121,7 @@ impl Interval {
     }
 
     // Whether ln is real on it.
-    #[tactic(auto, using(number::specs::Sound::finite_test), unfolding(crate::specs::Interval::has_ln, number::specs::Computing::computing))]
+    #[tactic(auto, using(crate::proofs::Floats::finite_test), unfolding(crate::specs::Interval::has_ln, number::specs::Computing::computing))]
     pub fn has_ln(self) -> bool
         ensures { result ≡ has_ln self }
     {

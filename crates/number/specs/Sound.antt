@@ -1,7 +1,7 @@
 -- A sound range [lo, hi]: ends of the format, finite and of magnitude at most 2 ^ (emax - 1), which is 2 ^ 1022 in an f64, and lo <= hi. Assumes nothing.
-use Rattle.std.proofs.Common.{refl, subst, arith}
-use Rattle.std.specs.Prelude.{◌≡◌, ◌-◌, Bool, true, false, ◌&&◌, T, pos, Float}
-use Rattle.std.specs.Float.{nan, inf, fin, Format, float_is_finite}
+use Rattle.std.proofs.Common.{subst, arith}
+use Rattle.std.specs.Prelude.{◌-◌, Bool, true, false, ◌&&◌, T, pos, Float}
+use Rattle.std.specs.Float.{nan, inf, fin, Format}
 use Rattle.std.specs.Float.Ieee.{emax, fits, neg, le}
 use Rattle.std.specs.Float.Ieee.Fits.{and_l, and_r, and_i}
 use Rattle.std.specs.Float.Ieee.Scale.{finite}
@@ -55,13 +55,6 @@ sound_le f lo hi h = and_r (within f lo && within f hi) (le lo hi) (sound_ranged
 
 pub sound_i : (f : Format) (lo hi : Float) → T (fits f lo) → T (fits f hi) → T (within f lo) → T (within f hi) → T (le lo hi) → T (sound f lo hi)
 sound_i f lo hi d e p q h = and_i (fits f lo && fits f hi) (ranged f lo hi) (and_i (fits f lo) (fits f hi) d e) (and_i (within f lo && within f hi) (le lo hi) (and_i (within f lo) (within f hi) p q) h)
-
--- ---- the library's test for a finite value
-pub finite_test : (x : Float) → float_is_finite x ≡ finite x
-unfolding float_is_finite
-finite_test nan = refl
-finite_test (inf s) = refl
-finite_test (fin s m e) = refl
 
 -- ---- what lies between two such values is such a value
 pub finite_between : (a x b : Float) → T (finite a) → T (finite b) → T (le a x) → T (le x b) → T (finite x)

@@ -23,13 +23,13 @@ pub struct Settings {
 
 impl Settings {
     // 14 for a parameter outside its range, as a NaN always is. `&` has no branch, so the test is the definition's.
-    #[tactic(auto, using(number::specs::Sound::finite_test), unfolding(crate::specs::Settings::in_range, crate::specs::Settings::settings_refusal, number::specs::Computing::computing))]
+    #[tactic(auto, using(crate::proofs::Ranges::ordered), unfolding(crate::specs::Settings::in_range, crate::specs::Settings::settings_refusal, number::specs::Computing::computing))]
     pub fn test(self) -> Result<(), Refusal>
         ensures { refusal_of result ≡ settings_refusal self }
     {
         let rounds = (1 <= self.rounds) & (self.rounds <= 100);
         let ordered = (0.0 < self.slack) & (self.slack < self.equality);
-        let finite = self.slack.is_finite() & self.equality.is_finite();
+        let finite = self.equality < f64::INFINITY;
         let clamp = (1.0 <= self.clamp) & (self.clamp <= 709.0);
         if rounds & (ordered & finite) & clamp {
             return Ok(());
