@@ -132,15 +132,19 @@ pub fn check(
     point: &[f64],
     settings: &Settings,
 ) -> Result<bool, Refusal> {
-    let mut passes = false;
-    let number = number(calls::check(
-        Records { nodes, constraints },
-        point,
-        settings.to_port(),
-        &mut passes,
-    ));
-    assert!(number == 0 || !passes);
-    refused_unless_zero(number, passes)
+    let answers = [false, true].map(|before| {
+        let mut passes = before;
+        let number = number(calls::check(
+            Records { nodes, constraints },
+            point,
+            settings.to_port(),
+            &mut passes,
+        ));
+        assert!(number == 0 || passes == before);
+        refused_unless_zero(number, passes)
+    });
+    assert_eq!(answers[0], answers[1]);
+    answers[0]
 }
 
 /// A point's residual.
