@@ -122,10 +122,9 @@ pub not_residual : (σ : Settings) (p : List Float) (c : Constraint) → residua
 unfolding residual residual_of_not
 not_residual σ p c = refl
 
--- "With 01's numbers in the record, every answer is still the Rust's." The steps, and below the calls.
-pub usual_steps : Steps usual 20 (decimal 1 (10 ^ 8)) (decimal 1 (10 ^ 12)) (whole 709)
-unfolding usual propagate holds fails narrow_var tightened eml_complex when◌then◌else◌
-usual_steps = record {
+steps : (t : Tuning) → Steps (tuned t) t.rounds t.equality t.slack t.clamp
+unfolding propagate holds fails narrow_var tightened eml_complex when◌then◌else◌
+steps t = record {
   at_most = λ c b. refl;
   eq_zero = λ v. refl;
   gt_zero = λ v. refl;
@@ -139,22 +138,14 @@ usual_steps = record {
   clamps = λ l r. refl;
 }
 
+-- "With 01's numbers in the record, every answer is still the Rust's." The steps, and below the calls.
+pub usual_steps : Steps usual 20 (decimal 1 (10 ^ 8)) (decimal 1 (10 ^ 12)) (whole 709)
+unfolding usual
+usual_steps = steps (record { rounds = 20; equality = decimal 1 (10 ^ 8); slack = decimal 1 (10 ^ 12); clamp = whole 709 })
+
 -- "With others it follows 01's steps with the new numbers"
 pub tuned_steps : (t : Tuning) → Steps (tuned t) t.rounds t.equality t.slack t.clamp
-unfolding propagate holds fails narrow_var tightened eml_complex when◌then◌else◌
-tuned_steps t = record {
-  at_most = λ c b. refl;
-  eq_zero = λ v. refl;
-  gt_zero = λ v. refl;
-  ge_zero = λ v. refl;
-  lt_zero = λ v. refl;
-  le_zero = λ v. refl;
-  ne_zero = λ v. refl;
-  ne_zero_fails = λ v. refl;
-  moved = λ i out b. refl;
-  moved_by_or = λ h old. refl;
-  clamps = λ l r. refl;
-}
+tuned_steps = steps
 
 -- "and raising a limit of at least 1 still changes no answer but 'limit'." Of the definition, and of what the calls return: x under the limit L, y under M.
 pub raised : (σ : Settings) (p : Problem) (bounds : List Interval) (L M : ℕ) → 1 ≤ L → L ≤ M → reached (solve σ p bounds L) ≡ false → solve σ p bounds M ≡ solve σ p bounds L
@@ -226,7 +217,8 @@ module _ (σ : Settings) (out : in_range σ ≡ false) where
       let c = none_both (3 unless ltb k (length nodes / 16)) _ b.1 in
       rw (a.0, b.0, c.0, refused) refl
 
--- And a record inside the ranges, as 01's numbers are, alters no refusal: the calls are 01's with the record's numbers.
+-- And a record inside the ranges, as 01's numbers are, alters no refusal: the calls are 01's with the record's numbers. With `usual` these are what the calls
+-- were before there was a record.
 module _ (σ : Settings) (accepted : in_range σ ≡ true) where
   taken : settings_refusal σ ≡ 0
   unfolding settings_refusal
