@@ -1,8 +1,8 @@
 /*
  * The calls of the proved stretch solver (target/staticlib/libeml.a, which `tools/library` writes).
  *
- * Every answer is fixed to the bit by document 01, and the code behind each call is proved to give it. Nothing is allocated,
- * nothing is kept between calls, and any thread may call.
+ * Every answer is fixed to the bit by documents 01 and 02, and the code behind each call is proved to give it. Nothing is
+ * allocated, nothing is kept between calls, and any thread may call.
  *
  * A slice is a pointer and a length, which counts elements. No pointer may be NULL, also where the length is 0, but for the
  * bounds of eml_solve_to; and what a call writes must not overlap anything else that it was lent. The contents may be anything:
@@ -65,8 +65,8 @@ enum {
 
 /*
  * Byte 0 of a constraint's record; its argument is at 4, and the range of a quantifier, lo and hi, at 8 and at 16. Records are
- * in postorder: one that takes others comes after them. What a kind says is as the check tests it under the usual settings: the
- * 1e-8 is their equality tolerance, and the 1e-12 is their slack. Under others it is theirs (eml_settings).
+ * in postorder: one that takes others comes after them. What a kind says is as the check tests it under document 01's settings.
+ * Under others their equality tolerance stands in the place of 1e-8, and their slack in that of 1e-12 (eml_settings).
  */
 enum {
     EML_KIND_EQ_ZERO = 0, /* of the node that the argument names: |v| < 1e-8, v being its value */
@@ -120,12 +120,12 @@ static inline const char *eml_refusal_text(uint8_t refusal) {
 
 /*
  * The numbers of document 01 that a caller may change. Each call that uses one of them gets all four, by value, and takes
- * document 01's steps with them. After the file or the records, and before all else that it was given, it tests them, and
- * refuses with 14 where one is outside its range or a NaN, also where it would not use that one. An imaginary part below 1e-12
- * still counts as none, and the 1e-12 in the residual of a Not stays too.
+ * document 01's steps with them. After the file or the records (eml_eval_real: and after the node's number), and before all
+ * else that it was given, it tests them, and refuses with 14 where one is outside its range or a NaN, also where it would not
+ * use that one. An imaginary part below 1e-12 still counts as none, and the 1e-12 in the residual of a Not stays too.
  */
 typedef struct eml_settings {
-    /* Narrowing goes over the constraint until nothing changes, but at most so often: 1 to 100. */
+    /* Narrowing goes over the constraint until nothing changes, but at most so many times: 1 to 100. */
     size_t rounds;
     /* The equality tolerance, above the slack and finite: EML_KIND_EQ_ZERO passes the check where |v| < equality. */
     double equality;
@@ -138,8 +138,9 @@ typedef struct eml_settings {
     double slack;
     /*
      * The clamp, 1 to 709. At a point, exp of an argument above it is exp(clamp), and of one below its negative exp(-clamp).
-     * Narrowing does not clamp. Since x - y is made as exp(ln(x)) - ln(exp(y)), a y above the clamp counts there as the clamp,
-     * and an x above exp(clamp) as exp(clamp).
+     * Narrowing does not clamp. Since ln(x) is made as e - ln(exp(e - ln(x))), and x - y as exp(ln(x)) - ln(exp(y)), in a
+     * comparison y counts as no less than -clamp and no more than clamp, and x as no less than exp(e - clamp) and no more than
+     * exp(clamp): under a clamp of 5 each x below 0.1021 counts as that. Under a clamp below e/2 every x counts as exp(clamp).
      */
     double clamp;
 } eml_settings;

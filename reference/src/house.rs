@@ -170,7 +170,7 @@ pub struct Problem {
     pub bounds: Vec<(f64, f64)>,
 }
 
-/// A refusal: document 01's number.
+/// A refusal: its number.
 pub type Refusal = u8;
 
 fn u32_at(bytes: &[u8], at: usize) -> u32 {

@@ -10,7 +10,7 @@ use crate::smt::interval::PropResult;
 use eml::calls::{self, DecidePlaces, EvalPlaces, SolvePlaces};
 use eml::{Interval, Records, Stop};
 
-/// A refusal: document 01's number.
+/// A refusal: its number.
 pub type Refusal = u8;
 
 /// The number of a call's refusal, or 0.

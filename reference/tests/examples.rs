@@ -176,6 +176,34 @@ fn comparisons_at_their_ends() {
     assert_ne!(propagate(above, 1.0, 10.0).0, PropResult::Stable);
 }
 
+/// The ends under another clamp, c: the second operand counts as within -c and c, the first as within exp(e - c) and exp(c), and where c is below
+/// e/2 as exp(c).
+#[test]
+fn comparisons_under_a_clamp() {
+    let difference = |clamp: f64, x: f64, y: f64| {
+        let settings = Settings {
+            clamp,
+            ..Settings::default()
+        };
+        let tree = Canonical::sub(&EmlTree::const_val(x), &EmlTree::const_val(y));
+        tree.eval_real(&EvalCtx::new(&[], &settings))
+            .expect("a number")
+    };
+    let e = std::f64::consts::E;
+    let near = |a: f64, b: f64| (a - b).abs() < 1e-9 * b.abs().max(1.0);
+    assert_eq!(difference(5.0, 2.0, 6.0), difference(5.0, 2.0, 5.0));
+    assert_eq!(difference(5.0, 2.0, -6.0), difference(5.0, 2.0, -5.0));
+    assert_eq!(difference(5.0, 0.05, 0.0), difference(5.0, 0.1, 0.0));
+    assert!(near(difference(5.0, 0.05, 0.0), (e - 5.0).exp()));
+    assert!((0.1021..0.10211).contains(&difference(5.0, 0.05, 0.0)));
+    assert!(near(difference(5.0, 0.103, 0.0), 0.103));
+    assert!(near(difference(5.0, 200.0, 0.0), 5.0_f64.exp()));
+    assert!(near(difference(5.0, 148.0, 0.0), 148.0));
+    for x in [0.001, 1.0, 2.0, 1000.0] {
+        assert!(near(difference(1.0, x, 0.0), e));
+    }
+}
+
 /// Document 01's exp is not monotone: of the next number up it is one unit lower.
 #[test]
 fn exp_falls() {

@@ -530,6 +530,7 @@ fn tests_of_settings() {
 #[test]
 fn usual_settings() {
     let usual = Settings::default();
+    assert_eq!(eml::calls::usual_settings(), usual.to_port());
     assert_eq!(eml::Settings::default(), usual.to_port());
     assert_eq!(usual.refusal(), 0);
 }

@@ -1,4 +1,4 @@
-//! Enumerations by number: document 01's, or the order in which it names them.
+//! Enumerations by number: the documents', or the order in which document 01 names them.
 
 use core::fmt;
 

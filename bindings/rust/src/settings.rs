@@ -26,8 +26,9 @@ use crate::{Refusal, calls};
 /// # Ok::<(), Box<dyn std::error::Error>>(())
 /// ```
 ///
-/// After the file or the records, and before all else that it was given, a call tests them, and refuses with 14 where a number
-/// is outside its range or a NaN, also one that it would not use:
+/// After the file or the records ([`Records::eval_real`](crate::Records::eval_real): and after the node's number), and before
+/// all else that it was given, a call tests them, and refuses with 14 where a number is outside its range or a NaN, also one
+/// that it would not use:
 ///
 /// ```
 /// use eml::{Constraint, Node, Records, Refusal, Relation, Settings};
@@ -43,7 +44,7 @@ use crate::{Refusal, calls};
 #[non_exhaustive]
 #[repr(C)]
 pub struct Settings {
-    /// Narrowing goes over the constraint until nothing changes, but at most so often: 1 to 100. Document 01's is 20.
+    /// Narrowing goes over the constraint until nothing changes, but at most so many times: 1 to 100. Document 01's is 20.
     pub rounds: usize,
     /// The equality tolerance, above the slack and finite: [`EqZero`](crate::Relation::EqZero) passes the check where
     /// |v| < `equality`. Document 01's is 1e-8.
@@ -58,8 +59,10 @@ pub struct Settings {
     /// The clamp, 1 to 709. Document 01's is 709.
     ///
     /// At a point, exp of an argument above the clamp is exp(`clamp`), and of one below its negative exp(-`clamp`). Narrowing
-    /// does not clamp. Since [`canonical::sub`](crate::canonical::sub) makes x - y as exp(ln(x)) - ln(exp(y)), a y above the
-    /// clamp counts there as the clamp, and an x above exp(`clamp`) as exp(`clamp`).
+    /// does not clamp. Since [`canonical::ln`](crate::canonical::ln) makes ln(x) as e - ln(exp(e - ln(x))), and
+    /// [`canonical::sub`](crate::canonical::sub) x - y as exp(ln(x)) - ln(exp(y)), in a comparison y counts as no less than
+    /// -`clamp` and no more than `clamp`, and x as no less than exp(e - `clamp`) and no more than exp(`clamp`): under a clamp of 5
+    /// each x below 0.1021 counts as that. Under a clamp below e/2 every x counts as exp(`clamp`).
     pub clamp: f64,
 }
 
@@ -101,7 +104,13 @@ impl Settings {
 
 /// Document 01's numbers.
 impl Default for Settings {
+    // As `calls::usual_settings` has them, without a call of the library.
     fn default() -> Self {
-        calls::usual_settings()
+        Self {
+            rounds: 20,
+            equality: 1e-8,
+            slack: 1e-12,
+            clamp: 709.0,
+        }
     }
 }

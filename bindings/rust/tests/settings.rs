@@ -74,6 +74,7 @@ fn refused() -> Vec<Numbers> {
 #[test]
 fn ranges() {
     assert_eq!(Settings::default(), untested(USUAL));
+    assert_eq!(Settings::default(), calls::usual_settings());
     for numbers in taken() {
         let (rounds, equality, slack, clamp) = numbers;
         let made = Settings::new(rounds, equality, slack, clamp);

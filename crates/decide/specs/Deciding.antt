@@ -87,7 +87,7 @@ verdict_number Unknown = 3
 unfoldable pub range_refusal : Float → Float → ℕ → ℕ
 range_refusal lo hi n = 9 unless leb n 16 && sound binary64 lo hi
 
--- 14: a parameter outside its range; those; then 10: fewer places for a point than variables
+-- 14 for the settings; then 9, as above; then 10: fewer places for a point than variables
 unfoldable pub later_refusal : Settings → Float → Float → ℕ → ℕ → ℕ
 later_refusal σ lo hi n room = settings_refusal σ or_else range_refusal lo hi n or_else 10 unless leb n room
 

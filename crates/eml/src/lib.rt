@@ -1,5 +1,5 @@
 // The calls of the static library, for C and Rust: plain numbers and slices only, and nothing asked of the caller. Each does what the
-// function behind it is proved to do. A call that can refuse returns document 01's number, or 0, and a refusal writes nothing.
+// function behind it is proved to do. A call that can refuse returns the refusal's number, or 0, and a refusal writes nothing.
 #![tactic(auto)]
 
 mod answers;

@@ -1,4 +1,4 @@
--- A number of what a file says, or document 01's number of its refusal.
+-- A number of what a file says, or the number of its refusal.
 use Rattle.std.specs.Prelude.{ℕ, Result, Ok, Err}
 use Rattle.constraint.specs.Constraint.{Constraint}
 use Rattle.file.specs.File.{Read, Refused, Accepted}

@@ -12,7 +12,7 @@ use narrow::{Mode, PropResult, Propagator};
 use record::Refusal;
 use settings::Settings;
 
-// The tests in document 01's order, then `propagate` by the one constraint that the records leave. A refusal alters nothing.
+// The tests in the documents' order, then `propagate` by the one constraint that the records leave. A refusal alters nothing.
 pub fn propagate(
     nodes: &[u8],
     constraints: &[u8],

@@ -19,7 +19,7 @@ module _ {B : Type 0} (nodes constraints : List ℕ) (b : B) (next : Constraint 
   refused_with r later e = sym (ap (λ (x : Read). tested x later b next) (given_refused nodes constraints (number_of r) e (never_none r)))
 
   module _ {c : Constraint} (e : read_given nodes constraints ≡ Read.Accepted c []) where
-    pub later_refused : (r : Refusal) (later : ℕ) → number_of r ≡ later → (Err (number_of r) leaving b) ≡ tested (read_given nodes constraints) later b next
+    later_refused : (r : Refusal) (later : ℕ) → number_of r ≡ later → (Err (number_of r) leaving b) ≡ tested (read_given nodes constraints) later b next
     unfolding tested
     later_refused r zero h = absurd (never_none r h)
     later_refused r (suc n) h = rw (e, h) refl

@@ -76,7 +76,7 @@ impl Propagator {
     }
 }
 
-// The tests in document 01's order, then `propagate` by the one constraint that the records leave. A refusal alters nothing.
+// The tests in the documents' order, then `propagate` by the one constraint that the records leave. A refusal alters nothing.
 #[tactic(auto, using(crate::proofs::Given::given), unfolding(crate::specs::Given::propagate_given))]
 pub fn propagate_given(
     nodes: &[u8],

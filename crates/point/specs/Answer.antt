@@ -12,14 +12,16 @@ use Rattle.point.specs.Eval.{eval_real}
 use Rattle.point.specs.Check.{check}
 use Rattle.point.specs.Residual.{residual}
 
--- ---- a node list: 2 unless the bytes make at most 1024 nodes; each node 3, 4; 3 where the number names no node; 14; 9
-unfoldable pub eval_refusal : Settings → List ℕ → ℕ → List Float → ℕ
-eval_refusal σ nodes k p =
+-- ---- a node of a list: 2 unless the bytes make at most 1024 nodes; each node 3, 4; 3 where the number names no node
+unfoldable pub root_refusal : List ℕ → ℕ → ℕ
+root_refusal nodes k =
     2 unless eqb (length nodes % 16) 0
     or_else list_refusal nodes (length nodes / 16)
     or_else 3 unless ltb k (length nodes / 16)
-    or_else settings_refusal σ
-    or_else 9 unless leb (length p) 16
+
+-- then 14, 9
+unfoldable pub eval_refusal : Settings → List ℕ → ℕ → List Float → ℕ
+eval_refusal σ nodes k p = root_refusal nodes k or_else settings_refusal σ or_else 9 unless leb (length p) 16
 
 -- the numbers of the errors; a value has 0
 abbrev pub error_number : EvalError → ℕ

@@ -25,7 +25,7 @@ use stack::Stack;
 use tree::EmlTree;
 
 // The tests of eval_real, and the node's tree.
-#[tactic(auto, using(tree::specs::NodeLaws::list_valid), unfolding(crate::specs::Answer::eval_refusal))]
+#[tactic(auto, using(tree::specs::NodeLaws::list_valid), unfolding(crate::specs::Answer::eval_refusal, crate::specs::Answer::root_refusal))]
 fn test_node<'a>(
     nodes: &'a [u8],
     k: usize,

@@ -1,7 +1,8 @@
 -- Demand 1: "The program as a whole ends on every file, box and limit. Malformed input gets its number from document 01, and then nothing lent is
 -- altered." That every function ends is part of what the toolchain proves. The second sentence is a theorem for each exported call that can refuse and
--- is lent places to write: the number that comes back is that of the first test that fails, in document 01's order, or 0; and where it is not 0, every
--- place is as it was. (eml_read and eml_read_records return the number and write nothing; the methods of an interval and the functions refuse nothing.)
+-- is lent places to write: the number that comes back is that of the first test that fails, in document 01's order, with 14 of document 02 [8] before 8, or
+-- before 9 where a call has no 8, or 0; and where it is not 0, every place is as it was. (eml_read, eml_read_records and eml_test_settings return the number
+-- and write nothing; the methods of an interval and the functions refuse nothing.)
 -- For any settings σ. Assumes nothing.
 use Prim.Native.Nat.{ℕ, zero, suc}
 use Rattle.std.specs.Prelude.{◌≡◌, Bool, List, [], Float, length, Result, Ok, Err}

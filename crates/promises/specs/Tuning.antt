@@ -1,6 +1,6 @@
--- Document 02 [8], tuning without a rebuild, sentence by sentence in its order. A caller gives four numbers, t, and `tuned t` is the record with them. What is
+-- Document 02 [8], tuning without a rebuild, sentence by sentence. A caller gives four numbers, t, and `tuned t` is the record with them. What is
 -- said of a record σ holds of every one. Assumes nothing.
-use Rattle.std.specs.Prelude.{◌≡◌, refl, ℕ, ◌^◌, ◌≤◌, ◌/◌, ◌%◌, Bool, true, false, not, ◌&&◌, T, List, [], leb, ltb, eqb, length, get_or, set, Float, Ok, Err}
+use Rattle.std.specs.Prelude.{◌≡◌, refl, ℕ, ◌^◌, ◌≤◌, ◌/◌, Bool, true, false, not, ◌&&◌, T, List, leb, length, get_or, set, Float, Ok, Err}
 use Rattle.std.proofs.Common.{leb-true, arith}
 use borrow.Author.Tests.{le-leb}
 use Rattle.std.specs.Float.Ieee.{neg, is_nan}
@@ -14,7 +14,7 @@ use Rattle.maths.specs.declared.Complex.{Complex}
 use Rattle.maths.specs.Cplx.{complex_exp, complex_ln}
 use Rattle.record.specs.Leaving.{◌leaving◌}
 use Rattle.record.specs.Refusal.{◌or_else◌, ◌unless◌, refused_or}
-use Rattle.record.specs.RefusalLaws.{both, none_both}
+use Rattle.record.specs.RefusalLaws.{both}
 use Rattle.settings.specs.declared.Settings.{Settings}
 use Rattle.settings.specs.declared.Tuning.{Tuning}
 use Rattle.settings.specs.Settings.{usual, in_range, settings_refusal, tuned}
@@ -22,7 +22,7 @@ use Rattle.interval.specs.declared.Interval.{Interval}
 use Rattle.interval.specs.Interval.{is_empty, width, intersect, moves}
 use Rattle.interval.specs.Boxes.{missing, intervals, is_domain}
 use Rattle.tree.specs.Tree.{Tree}
-use Rattle.tree.specs.Nodes.{tree_at, list_refusal}
+use Rattle.tree.specs.Nodes.{tree_at}
 use Rattle.constraint.specs.declared.Relation.TheVariants.{EqZero, GtZero, GeZero, LtZero, LeZero, NeZero}
 use Rattle.constraint.specs.Constraint.{Constraint, Not}
 use Rattle.file.specs.File.{left, refusal, read_file, given_refusal, read_given}
@@ -31,7 +31,7 @@ use Rattle.point.specs.declared.eval.EvalError.TheVariants.{NanEncountered, Comp
 use Rattle.point.specs.Eval.{difference, clamped, numeric, eml_complex, and_then, eval_complex, real_part, eval_real}
 use Rattle.point.specs.Check.{holds, check}
 use Rattle.point.specs.Residual.{residual_of_not, residual}
-use Rattle.point.specs.Answer.{eval_refusal, eval_answer, point_refusal, check_answer, residual_answer}
+use Rattle.point.specs.Answer.{root_refusal, eval_refusal, eval_answer, point_refusal, check_answer, residual_answer}
 use Rattle.narrow.specs.declared.PropResult.TheVariants.{Changed, Stable, Conflict}
 use Rattle.narrow.specs.Narrowing.{narrow_var, fails, tightened, rounds, propagate}
 use Rattle.narrow.specs.Given.{ends, tested, answered, propagate_given}
@@ -112,7 +112,8 @@ unfolding usual computing in_range
 usual_accepted = refl
 
 -- ---- its numbers
--- "The imaginary threshold and the Not residual's 1e-12 stay fixed."
+-- "The imaginary threshold and the Not residual's 1e-12 stay fixed." So do four times the f64 epsilon, in narrowing by GtZero and LtZero, and the decisions'
+-- 1e10: `target_of` and `boxes_at` receive no record.
 pub threshold : (σ : Settings) (p : List Float) (t : Tree) → eval_real σ p t ≡ and_then (eval_complex σ p t) (λ z.
     when abs_of z.im ≺ decimal 1 (10 ^ 12) then when is_nan z.re then Err NanEncountered else Ok z.re else Err (ComplexResult (abs_of z.im)))
 unfolding eval_real real_part
@@ -122,9 +123,10 @@ pub not_residual : (σ : Settings) (p : List Float) (c : Constraint) → residua
 unfolding residual residual_of_not
 not_residual σ p c = refl
 
-steps : (t : Tuning) → Steps (tuned t) t.rounds t.equality t.slack t.clamp
+-- "With others it follows 01's steps with the new numbers"
+pub tuned_steps : (t : Tuning) → Steps (tuned t) t.rounds t.equality t.slack t.clamp
 unfolding propagate holds fails narrow_var tightened eml_complex when◌then◌else◌
-steps t = record {
+tuned_steps t = record {
   at_most = λ c b. refl;
   eq_zero = λ v. refl;
   gt_zero = λ v. refl;
@@ -141,11 +143,7 @@ steps t = record {
 -- "With 01's numbers in the record, every answer is still the Rust's." The steps, and below the calls.
 pub usual_steps : Steps usual 20 (decimal 1 (10 ^ 8)) (decimal 1 (10 ^ 12)) (whole 709)
 unfolding usual
-usual_steps = steps (record { rounds = 20; equality = decimal 1 (10 ^ 8); slack = decimal 1 (10 ^ 12); clamp = whole 709 })
-
--- "With others it follows 01's steps with the new numbers"
-pub tuned_steps : (t : Tuning) → Steps (tuned t) t.rounds t.equality t.slack t.clamp
-tuned_steps = steps
+usual_steps = tuned_steps (record { rounds = 20; equality = decimal 1 (10 ^ 8); slack = decimal 1 (10 ^ 12); clamp = whole 709 })
 
 -- "and raising a limit of at least 1 still changes no answer but 'limit'." Of the definition, and of what the calls return: x under the limit L, y under M.
 pub raised : (σ : Settings) (p : Problem) (bounds : List Interval) (L M : ℕ) → 1 ≤ L → L ≤ M → reached (solve σ p bounds L) ≡ false → solve σ p bounds M ≡ solve σ p bounds L
@@ -208,17 +206,11 @@ module _ (σ : Settings) (out : in_range σ ≡ false) where
     unfolding decide_exists_given later_refusal
     exists_14 v lo hi n room = rw (given_is nodes b e, refused) refl
 
-  -- a node's own tests are those that it has at the empty point with 01's numbers
-  pub eval_14 : (nodes : List ℕ) (k : ℕ) → eval_refusal usual nodes k [] ≡ 0 → (p : List Float) → eval_answer σ nodes k p ≡ Err 14
+  pub eval_14 : (nodes : List ℕ) (k : ℕ) → root_refusal nodes k ≡ 0 → (p : List Float) → eval_answer σ nodes k p ≡ Err 14
   unfolding eval_answer eval_refusal
-  eval_14 nodes k e p =
-      let a = none_both (2 unless eqb (length nodes % 16) 0) _ e in
-      let b = none_both (list_refusal nodes (length nodes / 16)) _ a.1 in
-      let c = none_both (3 unless ltb k (length nodes / 16)) _ b.1 in
-      rw (a.0, b.0, c.0, refused) refl
+  eval_14 nodes k e p = rw (e, refused) refl
 
--- And a record inside the ranges, as 01's numbers are, alters no refusal: the calls are 01's with the record's numbers. With `usual` these are what the calls
--- were before there was a record.
+-- And a record inside the ranges, as 01's numbers are, alters no refusal: the calls are 01's with the record's numbers. With `usual` they are document 01's.
 module _ (σ : Settings) (accepted : in_range σ ≡ true) where
   taken : settings_refusal σ ≡ 0
   unfolding settings_refusal
@@ -262,11 +254,6 @@ module _ (σ : Settings) (accepted : in_range σ ≡ true) where
     unfolding decide_exists_given later_refusal
     exists_01 v lo hi n room = rw taken refl
 
-  pub eval_01 : (nodes : List ℕ) (k : ℕ) (p : List Float) → eval_answer σ nodes k p ≡ refused_or (
-      2 unless eqb (length nodes % 16) 0
-      or_else list_refusal nodes (length nodes / 16)
-      or_else 3 unless ltb k (length nodes / 16)
-      or_else 9 unless leb (length p) 16
-      ) Err (Ok (eval_real σ p (tree_at nodes k)))
+  pub eval_01 : (nodes : List ℕ) (k : ℕ) (p : List Float) → eval_answer σ nodes k p ≡ refused_or (root_refusal nodes k or_else 9 unless leb (length p) 16) Err (Ok (eval_real σ p (tree_at nodes k)))
   unfolding eval_answer eval_refusal
   eval_01 nodes k p = rw taken refl

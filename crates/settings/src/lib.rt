@@ -22,7 +22,7 @@ pub struct Settings {
 }
 
 impl Settings {
-    // 14 for a parameter outside its range, as a NaN always is. `&` has no branch, so the test is the definition's.
+    // 14 for a parameter outside its range, as a NaN always is. A slack above 0 and below a finite equality tolerance is finite.
     #[tactic(auto, using(crate::proofs::Ranges::ordered), unfolding(crate::specs::Settings::in_range, crate::specs::Settings::settings_refusal, number::specs::Computing::computing))]
     pub fn test(self) -> Result<(), Refusal>
         ensures { refusal_of result ≡ settings_refusal self }

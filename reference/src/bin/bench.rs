@@ -233,9 +233,7 @@ fn both_ways(
 /// Values, residuals, narrowed boxes and answers of problems like the house's, and of larger ones.
 fn solving() {
     let mut rng = SplitMix64::new(3);
-    // Document 01's numbers, as each side is given them.
     let usual = &Settings::default();
-    let settings = usual.to_port();
     let mut many = |shape: fn(&mut SplitMix64) -> Shape| -> Vec<Case> {
         let mut cases = Vec::new();
         while cases.len() < 300 {
@@ -257,7 +255,7 @@ fn solving() {
             |problem, c| value(problem, &c.point, usual),
             |c| {
                 let last = c.problem.trees.len() - 1;
-                black_box(records(c).eval_real_with(last, &c.point, settings).is_ok());
+                black_box(records(c).eval_real(last, &c.point).is_ok());
             },
         );
         both_ways(
@@ -265,7 +263,7 @@ fn solving() {
             &cases,
             |problem, c| residual(problem, &c.point, usual),
             |c| {
-                black_box(records(c).residual_with(&c.point, settings).is_ok());
+                black_box(records(c).residual(&c.point).is_ok());
             },
         );
         let mut domain = IntervalDomain { vars: Vec::new() };
@@ -277,16 +275,12 @@ fn solving() {
         both_ways(&format!("propagate, {size}"), &cases, &mut narrow, |c| {
             refill(&mut lo, &c.problem, |lo, _| lo);
             refill(&mut hi, &c.problem, |_, hi| hi);
-            black_box(
-                records(c)
-                    .propagate_ends_with(&mut lo, &mut hi, settings)
-                    .is_ok(),
-            );
+            black_box(records(c).propagate_ends(&mut lo, &mut hi).is_ok());
         });
         let mut boxes = Vec::new();
         both_ways(&format!("intervals, {size}"), &cases, &mut narrow, |c| {
             refill(&mut boxes, &c.problem, |lo, hi| eml::Interval { lo, hi });
-            black_box(records(c).propagate_with(&mut boxes, settings).is_ok());
+            black_box(records(c).propagate(&mut boxes).is_ok());
         });
         both_ways(
             &format!("solve, {size}"),
@@ -295,11 +289,7 @@ fn solving() {
             |c| {
                 let bounds = c.problem.bounds.iter();
                 let bounds: Vec<_> = bounds.map(|&(lo, hi)| eml::Interval { lo, hi }).collect();
-                black_box(
-                    records(c)
-                        .solve_with(&bounds, LIMIT, 1e-8, settings)
-                        .is_ok(),
-                );
+                black_box(records(c).solve(&bounds, LIMIT, 1e-8).is_ok());
             },
         );
     }
