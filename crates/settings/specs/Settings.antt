@@ -21,6 +21,6 @@ in_range σ =
 unfoldable pub settings_refusal : Settings → ℕ
 settings_refusal σ = 14 unless in_range σ
 
--- the settings with a caller's numbers
+-- the settings with a caller's numbers, and no strict evaluation
 abbrev pub tuned : Tuning → Settings
 tuned t = record { rounds = t.rounds; equality = t.equality; slack = t.slack; clamp = t.clamp; strict = false }
