@@ -139,8 +139,9 @@ typedef struct eml_settings {
     /*
      * The clamp, 1 to 709. At a point, exp of an argument above it is exp(clamp), and of one below its negative exp(-clamp).
      * Narrowing does not clamp. Since ln(x) is made as e - ln(exp(e - ln(x))), and x - y as exp(ln(x)) - ln(exp(y)), in a
-     * comparison y counts as no less than -clamp and no more than clamp, and x as no less than exp(e - clamp) and no more than
-     * exp(clamp): under a clamp of 5 each x below 0.1021 counts as that. Under a clamp below e/2 every x counts as exp(clamp).
+     * comparison y counts as no less than -clamp and no more than clamp, and the magnitude of x, whose sign stays, as no less
+     * than exp(e - clamp) and no more than exp(clamp): under a clamp of 5 each x from 0 to 0.1021 counts as 0.1021, and -0.05
+     * as -0.1021. Under a clamp below e/2 every magnitude of x counts as exp(clamp).
      */
     double clamp;
 } eml_settings;

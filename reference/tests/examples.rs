@@ -176,8 +176,8 @@ fn comparisons_at_their_ends() {
     assert_ne!(propagate(above, 1.0, 10.0).0, PropResult::Stable);
 }
 
-/// The ends under another clamp, c: the second operand counts as within -c and c, the first as within exp(e - c) and exp(c), and where c is below
-/// e/2 as exp(c).
+/// The ends under another clamp, c: the second operand counts as within -c and c; the magnitude of the first, whose sign stays, as within
+/// exp(e - c) and exp(c), and where c is below e/2 as exp(c).
 #[test]
 fn comparisons_under_a_clamp() {
     let difference = |clamp: f64, x: f64, y: f64| {
@@ -199,8 +199,10 @@ fn comparisons_under_a_clamp() {
     assert!(near(difference(5.0, 0.103, 0.0), 0.103));
     assert!(near(difference(5.0, 200.0, 0.0), 5.0_f64.exp()));
     assert!(near(difference(5.0, 148.0, 0.0), 148.0));
+    assert!(near(difference(5.0, -0.05, 0.0), -(e - 5.0).exp()));
+    assert!(near(difference(5.0, -2.0, 0.0), -2.0));
     for x in [0.001, 1.0, 2.0, 1000.0] {
-        assert!(near(difference(1.0, x, 0.0), e));
+        assert!(near(difference(1.0, x, 0.0), e) && near(difference(1.0, -x, 0.0), -e));
     }
 }
 

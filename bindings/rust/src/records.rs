@@ -491,8 +491,8 @@ impl<'a> Records<'a> {
         Ok(decided)
     }
 
-    /// How many variables the constraint has, `var` being one of them. The settings are tested before that, since document 01
-    /// has no number for a variable that is not there.
+    /// How many variables the constraint has, `var` being one of them. The settings are tested before that, as before all else
+    /// that a caller gives beside the records.
     fn decided_among(&self, var: usize, settings: Settings) -> Result<usize, DecisionError> {
         let num_vars = self.num_vars()?;
         settings.test()?;

@@ -61,8 +61,9 @@ pub struct Settings {
     /// At a point, exp of an argument above the clamp is exp(`clamp`), and of one below its negative exp(-`clamp`). Narrowing
     /// does not clamp. Since [`canonical::ln`](crate::canonical::ln) makes ln(x) as e - ln(exp(e - ln(x))), and
     /// [`canonical::sub`](crate::canonical::sub) x - y as exp(ln(x)) - ln(exp(y)), in a comparison y counts as no less than
-    /// -`clamp` and no more than `clamp`, and x as no less than exp(e - `clamp`) and no more than exp(`clamp`): under a clamp of 5
-    /// each x below 0.1021 counts as that. Under a clamp below e/2 every x counts as exp(`clamp`).
+    /// -`clamp` and no more than `clamp`, and the magnitude of x, whose sign stays, as no less than exp(e - `clamp`) and no more
+    /// than exp(`clamp`): under a clamp of 5 each x from 0 to 0.1021 counts as 0.1021, and -0.05 as -0.1021. Under a clamp below
+    /// e/2 every magnitude of x counts as exp(`clamp`).
     pub clamp: f64,
 }
 

@@ -48,7 +48,8 @@ use Rattle.promises.specs.Demand3.{file_settled, file_passes, given_settled, giv
 -- ---- the record
 -- "Put the rounds (20), the equality tolerance (1e-8), the slack (1e-12, in check, NeZero and the moved-end test) and the clamp (709) in one record that
 -- every call using them receives." Each contract names the record that its call receives. Where document 01's steps have these numbers, n standing for
--- 20, equality for 1e-8, slack for 1e-12 and clamp for 709 (the definitions read the record in no other place):
+-- 20, equality for 1e-8, slack for 1e-12 and clamp for 709 (the definitions read these in no other place, but for the clamp in strict
+-- evaluation, which `tuned` and `usual` have off):
 pub record Steps (σ : Settings) (n : ℕ) (equality slack clamp : Float) : Type 0 where
   -- "At most 20 rounds."
   pub at_most : (c : Constraint) (b : List Interval) → propagate σ c b ≡ rounds σ n c b

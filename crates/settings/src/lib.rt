@@ -9,11 +9,11 @@ use record::Refusal;
 
 #[derive(Clone, Copy)]
 pub struct Settings {
-    // how often narrowing goes round
+    // narrowing goes round at most so many times
     pub rounds: usize,
     // EqZero passes below it
     pub equality: f64,
-    // the slack of the other tests, of NeZero and of an end that moves
+    // the slack of GeZero, LeZero and NeZero in the check, of NeZero's conflict in narrowing, and of an end that moves
     pub slack: f64,
     // the real part of exp's argument is kept within it
     pub clamp: f64,
