@@ -4,6 +4,7 @@
 use crate::compare::hex;
 use crate::counted::Answer;
 use crate::error::EmlError;
+use crate::house::Bodies;
 use crate::settings::Settings;
 use crate::smt::helpers::QuantResult;
 use crate::smt::interval::PropResult;
@@ -295,6 +296,29 @@ pub fn solve(
     })
 }
 
+/// Solves a problem that is accepted, of a file and of records, with room for every point.
+pub fn solve_both(
+    bodies: &Bodies,
+    bounds: &[(f64, f64)],
+    limit: usize,
+    tolerance: f64,
+    settings: &Settings,
+) -> [Answer; 2] {
+    let of_file = solve_file(&bodies.to_file(), limit, tolerance, settings, 16);
+    let (lo, hi) = ends(bounds);
+    let (nodes, constraints) = (&bodies.nodes, &bodies.constraints);
+    let of_records = solve(
+        nodes,
+        constraints,
+        (&lo, &hi),
+        limit,
+        tolerance,
+        settings,
+        16,
+    );
+    [of_file, of_records].map(|answer| answer.expect("accepted"))
+}
+
 /// Writes the records of the normal form; their number.
 pub fn to_nnf(nodes: &[u8], constraints: &[u8], out: &mut [u8]) -> Result<usize, Refusal> {
     let mut written = usize::MAX;
@@ -306,6 +330,17 @@ pub fn to_nnf(nodes: &[u8], constraints: &[u8], out: &mut [u8]) -> Result<usize,
     assert_eq!(number == 0, written != usize::MAX);
     refused_unless_zero(number, written)
 }
+
+/// Either decision.
+pub type Decide = fn(
+    &[u8],
+    &[u8],
+    usize,
+    (f64, f64),
+    usize,
+    &Settings,
+    &mut [f64],
+) -> Result<QuantResult, Refusal>;
 
 /// A decision. Its point is what the call wrote to the first places of `point`.
 macro_rules! decision {

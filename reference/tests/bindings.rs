@@ -80,6 +80,22 @@ fn files() {
     tally.done(&[0, 1, 2, 3, 4, 5, 6, 7, 8], 100);
 }
 
+/// Both decisions of the port's calls.
+fn decisions(
+    records: Records,
+    var: usize,
+    range: (f64, f64),
+    num_vars: usize,
+    settings: &Settings,
+) -> [Result<QuantResult, port::Refusal>; 2] {
+    let Records { nodes, constraints } = records;
+    let calls: [port::Decide; 2] = [port::decide_forall, port::decide_exists];
+    calls.map(|call| {
+        let places = &mut [0.0; 16];
+        call(nodes, constraints, var, range, num_vars, settings, places)
+    })
+}
+
 /// Both decisions about a variable, which are those of the calls with the constraint's own number of variables, or an error where
 /// it has no such variable.
 fn compare_decisions(records: Records, var: usize, range: (f64, f64), decided: &mut [u64; 2]) {
@@ -102,27 +118,10 @@ fn compare_decisions(records: Records, var: usize, range: (f64, f64), decided: &
         // Refused whatever the number of variables is.
         Err(_) => 0,
     };
-    let (settings, mut places) = (Settings::default(), [0.0; 16]);
-    let theirs = port::decide_forall(
-        nodes,
-        constraints,
-        var,
-        range,
-        count,
-        &settings,
-        &mut places,
-    );
-    assert_eq!(text(&decision(ours[0])), text(&theirs));
-    let theirs = port::decide_exists(
-        nodes,
-        constraints,
-        var,
-        range,
-        count,
-        &settings,
-        &mut places,
-    );
-    assert_eq!(text(&decision(ours[1])), text(&theirs));
+    let theirs = decisions(records, var, range, count, &Settings::default());
+    for (ours, theirs) in ours.into_iter().zip(&theirs) {
+        assert_eq!(text(&decision(ours)), text(theirs));
+    }
     decided[0] += 1;
 }
 
@@ -300,29 +299,15 @@ fn with_settings() {
         if num_vars > 0 {
             let var = rng.below(num_vars);
             let range = generate::range_about(&mut rng, &parts.bounds, shape.temper);
-            let (asked, mut places) = (Interval::from(range), [0.0; 16]);
-            let ours = records.decide_forall_with(var, asked, settings);
-            let theirs = port::decide_forall(
-                nodes,
-                constraints,
-                var,
-                range,
-                num_vars,
-                &numbers,
-                &mut places,
-            );
-            assert_eq!(text(&decision(ours)), text(&theirs));
-            let ours = records.decide_exists_with(var, asked, settings);
-            let theirs = port::decide_exists(
-                nodes,
-                constraints,
-                var,
-                range,
-                num_vars,
-                &numbers,
-                &mut places,
-            );
-            assert_eq!(text(&decision(ours)), text(&theirs));
+            let asked = Interval::from(range);
+            let ours = [
+                records.decide_forall_with(var, asked, settings),
+                records.decide_exists_with(var, asked, settings),
+            ];
+            let theirs = decisions(records, var, range, num_vars, &numbers);
+            for (ours, theirs) in ours.into_iter().zip(&theirs) {
+                assert_eq!(text(&decision(ours)), text(theirs));
+            }
         }
     }
     tally.done(&[0, 14], 5_000);

@@ -3,25 +3,16 @@
 use reference::compare::{Tally, hex, say};
 use reference::generate::{self, Shape, Temper};
 use reference::house::{self, Node, Record, kind};
-use reference::port::{self, Refusal};
+use reference::port;
 use reference::settings::Settings;
 use reference::smt::constraint::EmlConstraint;
 use reference::smt::helpers::{self, QuantResult};
 use reference::splitmix::SplitMix64;
 
 type Rust = fn(usize, f64, f64, &EmlConstraint, usize, &Settings) -> QuantResult;
-type Port = fn(
-    &[u8],
-    &[u8],
-    usize,
-    (f64, f64),
-    usize,
-    &Settings,
-    &mut [f64],
-) -> Result<QuantResult, Refusal>;
 
-const FORALL: (Rust, Port) = (helpers::decide_forall, port::decide_forall);
-const EXISTS: (Rust, Port) = (helpers::decide_exists, port::decide_exists);
+const FORALL: (Rust, port::Decide) = (helpers::decide_forall, port::decide_forall);
+const EXISTS: (Rust, port::Decide) = (helpers::decide_exists, port::decide_exists);
 
 /// What a lent place holds before a call.
 const UNTOUCHED: f64 = -7.25;
@@ -57,7 +48,7 @@ fn samples(exists: bool, (lo, hi): (f64, f64)) -> [f64; 5] {
 
 /// Compares one call; the places past the point stay. The verdict's number and the point.
 fn compared(
-    (rust, port): (Rust, Port),
+    (rust, port): (Rust, port::Decide),
     (nodes, constraints): (&[u8], &[u8]),
     constraint: &EmlConstraint,
     var: usize,

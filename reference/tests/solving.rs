@@ -46,19 +46,7 @@ fn problems() {
             tolerance,
             &settings,
         );
-        let of_file = port::solve_file(&file, limit, tolerance, &settings, 16).expect("accepted");
-        let (lo, hi) = port::ends(&problem.bounds);
-        let (nodes, constraints) = (&bodies.nodes, &bodies.constraints);
-        let of_records = port::solve(
-            nodes,
-            constraints,
-            (&lo, &hi),
-            limit,
-            tolerance,
-            &settings,
-            16,
-        );
-        for ours in [of_file, of_records.expect("accepted")] {
+        for ours in port::solve_both(&bodies, &problem.bounds, limit, tolerance, &settings) {
             assert_eq!(text(&ours), text(&theirs), "{parts:?} {limit} {tolerance}");
         }
         stops[theirs.stop as usize] += 1;

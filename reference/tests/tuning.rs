@@ -124,26 +124,12 @@ fn solving() {
             ))
         };
         let theirs = solve(&settings);
-        let file = c.bodies.to_file();
-        let of_file = port::solve_file(&file, limit, tolerance, &settings, 16).expect("accepted");
-        let (lo, hi) = port::ends(bounds);
-        let Bodies {
-            nodes, constraints, ..
-        } = &c.bodies;
-        let of_records = port::solve(
-            nodes,
-            constraints,
-            (&lo, &hi),
-            limit,
-            tolerance,
-            &settings,
-            16,
-        );
-        for ours in [&of_file, &of_records.expect("accepted")] {
+        let ours = port::solve_both(&c.bodies, bounds, limit, tolerance, &settings);
+        for ours in &ours {
             let call = format!("{:?} {limit} {tolerance} {settings:?}", c.parts);
             assert_eq!(text(ours), theirs, "{call}");
         }
-        stops[of_file.stop as usize] += 1;
+        stops[ours[0].stop as usize] += 1;
         told.add(&settings, &theirs, solve);
     }
     say(&format!(

@@ -1,6 +1,6 @@
 //! Records without a file.
 
-use crate::calls::{self, EvalPlaces};
+use crate::calls::{self, DecidePlaces, EvalPlaces};
 use crate::format::{CONSTRAINT_BYTES, NODE_BYTES};
 use crate::interval::Ends;
 use crate::{
@@ -443,11 +443,9 @@ impl<'a> Records<'a> {
         range: Interval,
         settings: Settings,
     ) -> Result<Decision, DecisionError> {
-        let num_vars = self.decided_among(var, settings)?;
-        let decided = Decision::written(|to| {
+        self.decided(var, settings, |num_vars, to| {
             calls::decide_forall(*self, var, range, num_vars, settings, to)
-        })?;
-        Ok(decided)
+        })
     }
 
     /// Whether it holds for some value: by five samples in order (the middle, the lower end, the upper end, and a quarter from
@@ -484,22 +482,24 @@ impl<'a> Records<'a> {
         range: Interval,
         settings: Settings,
     ) -> Result<Decision, DecisionError> {
-        let num_vars = self.decided_among(var, settings)?;
-        let decided = Decision::written(|to| {
+        self.decided(var, settings, |num_vars, to| {
             calls::decide_exists(*self, var, range, num_vars, settings, to)
-        })?;
-        Ok(decided)
+        })
     }
 
-    /// How many variables the constraint has, `var` being one of them. The settings are tested before that, as before all else
-    /// that a caller gives beside the records.
-    fn decided_among(&self, var: usize, settings: Settings) -> Result<usize, DecisionError> {
+    /// A decision by a call that is given the number of variables, `var` being one of them. The settings are tested before that,
+    /// as before all else that a caller gives beside the records.
+    fn decided(
+        &self,
+        var: usize,
+        settings: Settings,
+        call: impl FnOnce(usize, &mut DecidePlaces<'_>) -> Result<(), Refusal>,
+    ) -> Result<Decision, DecisionError> {
         let num_vars = self.num_vars()?;
         settings.test()?;
-        if var < num_vars {
-            Ok(num_vars)
-        } else {
-            Err(DecisionError::NoSuchVariable { var, num_vars })
+        if num_vars <= var {
+            return Err(DecisionError::NoSuchVariable { var, num_vars });
         }
+        Ok(Decision::written(|to| call(num_vars, to))?)
     }
 }
