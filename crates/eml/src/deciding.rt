@@ -1,6 +1,5 @@
 // Decisions about a variable in a range, on records. A refusal leaves the lent places as they were.
 ghost use Rattle.std.specs.Prelude.{length};
-ghost use Rattle.settings.specs.Settings.{tuned};
 ghost use Rattle.decide.specs.Deciding.{decide_forall_given, decide_exists_given};
 ghost use Rattle.decide.specs.Decisions.{Fits};
 ghost use Rattle.decide.specs.Views.{answered};
@@ -10,7 +9,7 @@ ghost use Rattle.eml.specs.Places.{Decides};
 use crate::answers::put_point;
 use decide::Verdict;
 use record::Refusal;
-use settings::Tuning;
+use settings::Settings;
 
 fn put_decided(
     answer: Result<Verdict, Refusal>,
@@ -45,24 +44,15 @@ pub fn eml_decide_forall(
     lo: f64,
     hi: f64,
     num_vars: usize,
-    settings: Tuning,
+    settings: Settings,
     verdict: &mut u8,
     count: &mut usize,
     point: &mut [f64],
 ) -> u8
-    ensures { Decides verdict count point result (decide_forall_given (tuned settings) nodes.now constraints.now var lo hi num_vars (length (old point))) }
+    ensures { Decides verdict count point result (decide_forall_given settings nodes.now constraints.now var lo hi num_vars (length (old point))) }
 {
     let room = point.len();
-    let answer = decide::decide_forall(
-        nodes,
-        constraints,
-        var,
-        lo,
-        hi,
-        num_vars,
-        settings.into(),
-        room,
-    );
+    let answer = decide::decide_forall(nodes, constraints, var, lo, hi, num_vars, settings, room);
     put_decided(answer, verdict, count, point)
 }
 
@@ -75,23 +65,14 @@ pub fn eml_decide_exists(
     lo: f64,
     hi: f64,
     num_vars: usize,
-    settings: Tuning,
+    settings: Settings,
     verdict: &mut u8,
     count: &mut usize,
     point: &mut [f64],
 ) -> u8
-    ensures { Decides verdict count point result (decide_exists_given (tuned settings) nodes.now constraints.now var lo hi num_vars (length (old point))) }
+    ensures { Decides verdict count point result (decide_exists_given settings nodes.now constraints.now var lo hi num_vars (length (old point))) }
 {
     let room = point.len();
-    let answer = decide::decide_exists(
-        nodes,
-        constraints,
-        var,
-        lo,
-        hi,
-        num_vars,
-        settings.into(),
-        room,
-    );
+    let answer = decide::decide_exists(nodes, constraints, var, lo, hi, num_vars, settings, room);
     put_decided(answer, verdict, count, point)
 }

@@ -2,7 +2,6 @@
 ghost use Rattle.std.specs.Prelude.{◌≡◌};
 ghost use Rattle.record.specs.Leaving.{◌leaving◌};
 ghost use Rattle.record.specs.Refused.{numbered};
-ghost use Rattle.settings.specs.Settings.{tuned};
 ghost use Rattle.narrow.specs.Given.{propagate_given};
 ghost use Rattle.lent.specs.Lent.{propagate_lent};
 ghost use Rattle.record.specs.Views.{old, final};
@@ -11,7 +10,7 @@ ghost use Rattle.eml.specs.Answers.{writing, propagated};
 use interval::Interval;
 use narrow::PropResult;
 use record::Refusal;
-use settings::Tuning;
+use settings::Settings;
 
 fn put_result(answer: Result<PropResult, Refusal>, place: &mut u8) -> u8
     ensures { (result leaving final place) ≡ propagated (numbered answer) (old place) }
@@ -29,15 +28,15 @@ fn put_result(answer: Result<PropResult, Refusal>, place: &mut u8) -> u8
 pub fn eml_propagate(
     nodes: &[u8],
     constraints: &[u8],
-    settings: Tuning,
+    settings: Settings,
     lo: &mut [f64],
     hi: &mut [f64],
     answer: &mut u8,
 ) -> u8
-    ensures { (result leaving (final answer, (final lo, final hi))) ≡ writing propagated (propagate_given (tuned settings) nodes.now constraints.now (old lo) (old hi)) (old answer) }
+    ensures { (result leaving (final answer, (final lo, final hi))) ≡ writing propagated (propagate_given settings nodes.now constraints.now (old lo) (old hi)) (old answer) }
 {
     put_result(
-        narrow::propagate_given(nodes, constraints, settings.into(), lo, hi),
+        narrow::propagate_given(nodes, constraints, settings, lo, hi),
         answer,
     )
 }
@@ -46,14 +45,11 @@ pub fn eml_propagate(
 pub fn eml_propagate_intervals(
     nodes: &[u8],
     constraints: &[u8],
-    settings: Tuning,
+    settings: Settings,
     boxes: &mut [Interval],
     answer: &mut u8,
 ) -> u8
-    ensures { (result leaving (final answer, final boxes)) ≡ writing propagated (propagate_lent (tuned settings) nodes.now constraints.now (old boxes)) (old answer) }
+    ensures { (result leaving (final answer, final boxes)) ≡ writing propagated (propagate_lent settings nodes.now constraints.now (old boxes)) (old answer) }
 {
-    put_result(
-        lent::propagate(nodes, constraints, settings.into(), boxes),
-        answer,
-    )
+    put_result(lent::propagate(nodes, constraints, settings, boxes), answer)
 }

@@ -1,26 +1,25 @@
 // Testing a point, on records. An answer is written to the lent places, unless it is a refusal: then they stay as they were.
 ghost use Rattle.std.specs.Prelude.{◌≡◌};
 ghost use Rattle.record.specs.Leaving.{◌leaving◌};
-ghost use Rattle.settings.specs.Settings.{tuned};
 ghost use Rattle.point.specs.Answer.{eval_answer, check_answer, residual_answer};
 ghost use Rattle.record.specs.Views.{old, final};
 ghost use Rattle.eml.specs.Answers.{placed, failed, evaluated, evaluation_before, evaluation_after};
 
 use crate::answers::put;
 use point::eval::EvalError;
-use settings::Tuning;
+use settings::Settings;
 
 // Whether the point passes the check, to `passes`.
 pub fn eml_check(
     nodes: &[u8],
     constraints: &[u8],
     point: &[f64],
-    settings: Tuning,
+    settings: Settings,
     passes: &mut bool,
 ) -> u8
-    ensures { (result leaving final passes) ≡ placed (check_answer (tuned settings) nodes.now constraints.now point.now) (old passes) }
+    ensures { (result leaving final passes) ≡ placed (check_answer settings nodes.now constraints.now point.now) (old passes) }
 {
-    let answer = point::check_constraint(nodes, constraints, point, settings.into());
+    let answer = point::check_constraint(nodes, constraints, point, settings);
     put(answer, passes)
 }
 
@@ -29,12 +28,12 @@ pub fn eml_residual(
     nodes: &[u8],
     constraints: &[u8],
     point: &[f64],
-    settings: Tuning,
+    settings: Settings,
     out: &mut f64,
 ) -> u8
-    ensures { (result leaving final out) ≡ placed (residual_answer (tuned settings) nodes.now constraints.now point.now) (old out) }
+    ensures { (result leaving final out) ≡ placed (residual_answer settings nodes.now constraints.now point.now) (old out) }
 {
-    let answer = point::residual(nodes, constraints, point, settings.into());
+    let answer = point::residual(nodes, constraints, point, settings);
     put(answer, out)
 }
 
@@ -73,15 +72,15 @@ pub fn eml_eval_real(
     nodes: &[u8],
     node: usize,
     point: &[f64],
-    settings: Tuning,
+    settings: Settings,
     kind: &mut u8,
     value: &mut f64,
     index: &mut usize,
     count: &mut usize,
 ) -> u8
-    ensures { (result leaving evaluation_after kind value index count) ≡ evaluated (eval_answer (tuned settings) nodes.now node point.now) (evaluation_before kind value index count) }
+    ensures { (result leaving evaluation_after kind value index count) ≡ evaluated (eval_answer settings nodes.now node point.now) (evaluation_before kind value index count) }
 {
-    match point::eval_real(nodes, node, point, settings.into()) {
+    match point::eval_real(nodes, node, point, settings) {
         Ok(Ok(x)) => {
             *kind = 0;
             *value = x;

@@ -1,6 +1,5 @@
 // Solving, of a file and of records with bounds.
 ghost use Rattle.std.specs.Prelude.{length};
-ghost use Rattle.settings.specs.Settings.{tuned};
 ghost use Rattle.nra.specs.Answers.{answered};
 ghost use Rattle.nra.specs.Calls.{solve_file, solve_given};
 ghost use Rattle.nra.specs.Fits.{Fits};
@@ -10,7 +9,7 @@ ghost use Rattle.eml.specs.Places.{Solves};
 use crate::answers::put_point;
 use nra::Solved;
 use record::Refusal;
-use settings::Tuning;
+use settings::Settings;
 
 #[tactic(auto, using(number::specs::Literals::zero_is))]
 fn put_solved(
@@ -62,7 +61,7 @@ pub fn eml_solve_file(
     file: &[u8],
     limit: usize,
     tolerance: f64,
-    settings: Tuning,
+    settings: Settings,
     stop: &mut u8,
     exact: &mut bool,
     residual: &mut f64,
@@ -70,9 +69,9 @@ pub fn eml_solve_file(
     count: &mut usize,
     point: &mut [f64],
 ) -> u8
-    ensures { Solves stop exact residual halvings count point result (solve_file (tuned settings) file.now limit tolerance (length (old point))) }
+    ensures { Solves stop exact residual halvings count point result (solve_file settings file.now limit tolerance (length (old point))) }
 {
-    let answer = nra::solve_file(file, limit, tolerance, settings.into(), point.len());
+    let answer = nra::solve_file(file, limit, tolerance, settings, point.len());
     put_solved(answer, stop, exact, residual, halvings, count, point)
 }
 
@@ -85,7 +84,7 @@ pub fn eml_solve(
     hi: &[f64],
     limit: usize,
     tolerance: f64,
-    settings: Tuning,
+    settings: Settings,
     stop: &mut u8,
     exact: &mut bool,
     residual: &mut f64,
@@ -93,18 +92,9 @@ pub fn eml_solve(
     count: &mut usize,
     point: &mut [f64],
 ) -> u8
-    ensures { Solves stop exact residual halvings count point result (solve_given (tuned settings) nodes.now constraints.now lo.now hi.now limit tolerance (length (old point))) }
+    ensures { Solves stop exact residual halvings count point result (solve_given settings nodes.now constraints.now lo.now hi.now limit tolerance (length (old point))) }
 {
     let room = point.len();
-    let answer = nra::solve(
-        nodes,
-        constraints,
-        lo,
-        hi,
-        limit,
-        tolerance,
-        settings.into(),
-        room,
-    );
+    let answer = nra::solve(nodes, constraints, lo, hi, limit, tolerance, settings, room);
     put_solved(answer, stop, exact, residual, halvings, count, point)
 }

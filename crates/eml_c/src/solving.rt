@@ -1,18 +1,17 @@
 // The exports of `eml::solving`.
 ghost use Rattle.std.specs.Prelude.{length};
-ghost use Rattle.settings.specs.Settings.{tuned};
 ghost use Rattle.nra.specs.Calls.{solve_file, solve_given};
 ghost use Rattle.record.specs.Views.{old};
 ghost use Rattle.eml.specs.Places.{Solves};
 
-use settings::Tuning;
+use settings::Settings;
 
 #[unsafe(no_mangle)]
 pub extern "C" fn eml_solve_file(
     file: &[u8],
     limit: usize,
     tolerance: f64,
-    settings: Tuning,
+    settings: Settings,
     stop: &mut u8,
     exact: &mut bool,
     residual: &mut f64,
@@ -20,7 +19,7 @@ pub extern "C" fn eml_solve_file(
     count: &mut usize,
     point: &mut [f64],
 ) -> u8
-    ensures { Solves stop exact residual halvings count point result (solve_file (tuned settings) file.now limit tolerance (length (old point))) }
+    ensures { Solves stop exact residual halvings count point result (solve_file settings file.now limit tolerance (length (old point))) }
 {
     eml::solving::eml_solve_file(
         file, limit, tolerance, settings, stop, exact, residual, halvings, count, point,
@@ -35,7 +34,7 @@ pub extern "C" fn eml_solve(
     hi: &[f64],
     limit: usize,
     tolerance: f64,
-    settings: Tuning,
+    settings: Settings,
     stop: &mut u8,
     exact: &mut bool,
     residual: &mut f64,
@@ -43,7 +42,7 @@ pub extern "C" fn eml_solve(
     count: &mut usize,
     point: &mut [f64],
 ) -> u8
-    ensures { Solves stop exact residual halvings count point result (solve_given (tuned settings) nodes.now constraints.now lo.now hi.now limit tolerance (length (old point))) }
+    ensures { Solves stop exact residual halvings count point result (solve_given settings nodes.now constraints.now lo.now hi.now limit tolerance (length (old point))) }
 {
     eml::solving::eml_solve(
         nodes,

@@ -1,19 +1,19 @@
 // The exports of `eml::tuning`.
 ghost use Rattle.std.specs.Prelude.{◌≡◌};
-ghost use Rattle.settings.specs.Settings.{usual, settings_refusal, tuned};
+ghost use Rattle.settings.specs.Settings.{usual, settings_refusal};
 
-use settings::Tuning;
+use settings::Settings;
 
 #[unsafe(no_mangle)]
-pub extern "C" fn eml_usual_settings() -> Tuning
-    ensures { tuned result ≡ usual }
+pub extern "C" fn eml_usual_settings() -> Settings
+    ensures { result ≡ usual }
 {
     eml::tuning::eml_usual_settings()
 }
 
 #[unsafe(no_mangle)]
-pub extern "C" fn eml_test_settings(settings: Tuning) -> u8
-    ensures { result ≡ settings_refusal (tuned settings) }
+pub extern "C" fn eml_test_settings(settings: Settings) -> u8
+    ensures { result ≡ settings_refusal settings }
 {
     eml::tuning::eml_test_settings(settings)
 }

@@ -1,5 +1,5 @@
--- Document 02 [8], tuning without a rebuild, sentence by sentence. A caller gives four numbers, t, and `tuned t` is the record with them. What is
--- said of a record σ holds of every one. Assumes nothing.
+-- Document 02 [8], tuning without a rebuild, sentence by sentence. What is said of a record σ holds of every one, of a strict one ([9]) too. Assumes
+-- nothing.
 use Rattle.std.specs.Prelude.{◌≡◌, refl, ℕ, ◌^◌, ◌≤◌, ◌/◌, Bool, true, false, not, ◌&&◌, T, List, leb, length, get_or, set, Float, Ok, Err}
 use Rattle.std.proofs.Common.{leb-true, arith}
 use borrow.Author.Tests.{le-leb}
@@ -16,8 +16,7 @@ use Rattle.record.specs.Leaving.{◌leaving◌}
 use Rattle.record.specs.Refusal.{◌or_else◌, ◌unless◌, refused_or}
 use Rattle.record.specs.RefusalLaws.{both}
 use Rattle.settings.specs.declared.Settings.{Settings}
-use Rattle.settings.specs.declared.Tuning.{Tuning}
-use Rattle.settings.specs.Settings.{usual, in_range, settings_refusal, tuned}
+use Rattle.settings.specs.Settings.{usual, in_range, settings_refusal}
 use Rattle.interval.specs.declared.Interval.{Interval}
 use Rattle.interval.specs.Interval.{is_empty, width, intersect, moves}
 use Rattle.interval.specs.Boxes.{missing, intervals, is_domain}
@@ -48,8 +47,8 @@ use Rattle.promises.specs.Demand3.{file_settled, file_passes, given_settled, giv
 -- ---- the record
 -- "Put the rounds (20), the equality tolerance (1e-8), the slack (1e-12, in check, NeZero and the moved-end test) and the clamp (709) in one record that
 -- every call using them receives." Each contract names the record that its call receives. Where document 01's steps have these numbers, n standing for
--- 20, equality for 1e-8, slack for 1e-12 and clamp for 709 (the definitions read these in no other place, but for the clamp in strict
--- evaluation, which `tuned` and `usual` have off):
+-- 20, equality for 1e-8, slack for 1e-12 and clamp for 709 (the definitions read these in no other place, but for the clamp in the test that strict
+-- evaluation makes, for which see `Strict`):
 pub record Steps (σ : Settings) (n : ℕ) (equality slack clamp : Float) : Type 0 where
   -- "At most 20 rounds."
   pub at_most : (c : Constraint) (b : List Interval) → propagate σ c b ≡ rounds σ n c b
@@ -67,8 +66,8 @@ pub record Steps (σ : Settings) (n : ℕ) (equality slack clamp : Float) : Type
       narrow_var σ i out b ≡ (when is_empty new then Conflict leaving b else when moves slack old new then Changed leaving set b i new else Stable leaving b)
   pub moved_by_or : (h old : Interval) → let new = intersect h old in
       tightened σ h old ≡ (when not (is_empty new) && moves slack old new then Changed leaving new else Stable leaving old)
-  -- "Exp's real argument is clamped to ±709."
-  pub clamps : (l r : Complex) → eml_complex σ l r ≡ numeric (difference (complex_exp (record { re = clamped clamp l.re; im = l.im })) (complex_ln r))
+  -- "Exp's real argument is clamped to ±709.", unless evaluation is strict
+  pub clamps : σ.strict ≡ false → (l r : Complex) → eml_complex σ l r ≡ numeric (difference (complex_exp (record { re = clamped clamp l.re; im = l.im })) (complex_ln r))
 
 -- "Rounds are 1 to 100, 0 < slack < equality tolerance, both finite, and the clamp is 1 to 709."
 pub record Ranges (σ : Settings) : Type 0 where
@@ -125,9 +124,9 @@ unfolding residual residual_of_not
 not_residual σ p c = refl
 
 -- "With others it follows 01's steps with the new numbers"
-pub tuned_steps : (t : Tuning) → Steps (tuned t) t.rounds t.equality t.slack t.clamp
+pub tuned_steps : (σ : Settings) → Steps σ σ.rounds σ.equality σ.slack σ.clamp
 unfolding propagate holds fails narrow_var tightened eml_complex when◌then◌else◌
-tuned_steps t = record {
+tuned_steps σ = record {
   at_most = λ c b. refl;
   eq_zero = λ v. refl;
   gt_zero = λ v. refl;
@@ -138,13 +137,13 @@ tuned_steps t = record {
   ne_zero_fails = λ v. refl;
   moved = λ i out b. refl;
   moved_by_or = λ h old. refl;
-  clamps = λ l r. refl;
+  clamps = λ off l r. rw off refl;
 }
 
 -- "With 01's numbers in the record, every answer is still the Rust's." The steps, and below the calls.
 pub usual_steps : Steps usual 20 (decimal 1 (10 ^ 8)) (decimal 1 (10 ^ 12)) (whole 709)
 unfolding usual
-usual_steps = tuned_steps (record { rounds = 20; equality = decimal 1 (10 ^ 8); slack = decimal 1 (10 ^ 12); clamp = whole 709 })
+usual_steps = tuned_steps usual
 
 -- "and raising a limit of at least 1 still changes no answer but 'limit'." Of the definition, and of what the calls return: x under the limit L, y under M.
 pub raised : (σ : Settings) (p : Problem) (bounds : List Interval) (L M : ℕ) → 1 ≤ L → L ≤ M → reached (solve σ p bounds L) ≡ false → solve σ p bounds M ≡ solve σ p bounds L

@@ -1,10 +1,9 @@
--- Document 02 [8]: the record of numbers that every call using them receives.
+-- Document 02 [8] and [9]: the record of numbers, and the strict flag, that every call using them receives.
 use Rattle.std.specs.Prelude.{ℕ, ◌^◌, Bool, ◌&&◌, leb, false}
 use Rattle.std.specs.Float.Ieee.Scale.{finite}
 use Rattle.number.specs.Notation.{◌≺◌, ◌≼◌, whole, decimal}
 use Rattle.record.specs.Refusal.{◌unless◌}
 use Rattle.settings.specs.declared.Settings.{Settings}
-use Rattle.settings.specs.declared.Tuning.{Tuning}
 
 -- document 01's numbers: at most 20 rounds, 1e-8, 1e-12, ±709, and no strict evaluation
 unfoldable pub usual : Settings
@@ -20,7 +19,3 @@ in_range σ =
 -- "14, a parameter outside its range"
 unfoldable pub settings_refusal : Settings → ℕ
 settings_refusal σ = 14 unless in_range σ
-
--- the settings with a caller's numbers, and no strict evaluation
-abbrev pub tuned : Tuning → Settings
-tuned t = record { rounds = t.rounds; equality = t.equality; slack = t.slack; clamp = t.clamp; strict = false }

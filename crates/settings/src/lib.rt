@@ -1,12 +1,14 @@
-// The numbers of document 01 that a caller may tune (document 02 [8]), in one record that every function using them receives.
+// The numbers of document 01 that a caller may tune (document 02 [8]) and the strict flag ([9]), in one record that every function using them receives. A
+// caller gives it by value, in C's layout.
 #![tactic(auto, unfolding(crate::specs::Settings::usual, number::specs::Computing::computing))]
 
 ghost use Rattle.std.specs.Prelude.{◌≡◌};
 ghost use Rattle.record.specs.Refused.{refusal_of};
-ghost use Rattle.settings.specs.Settings.{usual as usual_settings, settings_refusal, tuned};
+ghost use Rattle.settings.specs.Settings.{usual as usual_settings, settings_refusal};
 
 use record::Refusal;
 
+#[repr(C)]
 #[derive(Clone, Copy)]
 pub struct Settings {
     // narrowing goes round at most so many times
@@ -17,7 +19,7 @@ pub struct Settings {
     pub slack: f64,
     // the real part of exp's argument is kept within it
     pub clamp: f64,
-    // a clamped argument is an error
+    // whether a real part beyond it is an error
     pub strict: bool,
 }
 
@@ -38,47 +40,15 @@ impl Settings {
     }
 }
 
-// What a caller sets: the numbers alone.
-#[repr(C)]
-#[derive(Clone, Copy)]
-pub struct Tuning {
-    pub rounds: usize,
-    pub equality: f64,
-    pub slack: f64,
-    pub clamp: f64,
-}
-
-impl Tuning {
-    // Document 01's own.
-    pub fn usual() -> Self
-        ensures { tuned result ≡ usual_settings }
-    {
-        Self {
-            rounds: 20,
-            equality: 1e-8,
-            slack: 1e-12,
-            clamp: 709.0,
-        }
-    }
-}
-
-impl From<Tuning> for Settings {
-    ghost from_gives = { λ t s. s ≡ tuned t };
-
-    fn from(t: Tuning) -> Settings {
-        Settings {
-            rounds: t.rounds,
-            equality: t.equality,
-            slack: t.slack,
-            clamp: t.clamp,
-            strict: false,
-        }
-    }
-}
-
 // Document 01's own.
 pub fn usual() -> Settings
     ensures { result ≡ usual_settings }
 {
-    Tuning::usual().into()
+    Settings {
+        rounds: 20,
+        equality: 1e-8,
+        slack: 1e-12,
+        clamp: 709.0,
+        strict: false,
+    }
 }
