@@ -11,3 +11,8 @@ pub mod Left
 pub mod Starred
 pub mod SignOfZero
 pub mod Tuning
+pub mod Unclamped
+pub mod Reads
+pub mod Overflow
+pub mod Strict
+pub mod ClampedStretch
