@@ -1,6 +1,6 @@
 /*
- * Every call of eml.h, with what it answers: a prototype that is not the library's would answer otherwise. The argument is
- * examples/false_conflict.emlq.
+ * Every call of eml.h, with what it answers: a prototype that is not the library's would answer otherwise. The arguments are
+ * examples/false_conflict.emlq and examples/clamped.emlq.
  */
 #include "eml.h"
 
@@ -26,17 +26,28 @@ static bool near(double a, double b) {
     return eml_abs(a - b) < 1e-14;
 }
 
-/* Variable 0 is above 0.25, in [0.5,3.5]: a false conflict, and what a second look at it tells. */
-static void files(const char *path) {
-    static uint8_t file[EML_LONGEST_FILE];
+/* The file that was read last. */
+static uint8_t file[EML_LONGEST_FILE];
+
+/* Its length; 0 where it cannot be read. */
+static size_t read_file(const char *path) {
     FILE *stream = fopen(path, "rb");
     if (stream == NULL) {
         perror(path);
         failures++;
-        return;
+        return 0;
     }
     const size_t length = fread(file, 1, sizeof file, stream);
     fclose(stream);
+    return length;
+}
+
+/* Variable 0 is above 0.25, in [0.5,3.5]: a false conflict, and what a second look at it tells. */
+static void files(const char *path) {
+    const size_t length = read_file(path);
+    if (length == 0) {
+        return;
+    }
     HOLDS(eml_read(file, length) == 0);
     uint64_t vars = 0;
     HOLDS(eml_num_vars(file, length, &vars) == 0 && vars == 1);
@@ -169,31 +180,37 @@ static const struct {
     eml_settings settings;
     uint8_t refusal;
 } TESTED[] = {
-    {{1, 1e-8, 1e-12, 1.0}, 0},
-    {{100, DBL_MAX, DBL_TRUE_MIN, 709.0}, 0},
-    {{20, 1e-8, 1e-8 - 1e-23, 708.5}, 0},
-    {{0, 1e-8, 1e-12, 709.0}, EML_REFUSED_PARAMETER},
-    {{101, 1e-8, 1e-12, 709.0}, EML_REFUSED_PARAMETER},
-    {{SIZE_MAX, 1e-8, 1e-12, 709.0}, EML_REFUSED_PARAMETER},
-    {{20, 1e-12, 1e-12, 709.0}, EML_REFUSED_PARAMETER},
-    {{20, INFINITY, 1e-12, 709.0}, EML_REFUSED_PARAMETER},
-    {{20, NAN, 1e-12, 709.0}, EML_REFUSED_PARAMETER},
-    {{20, 1e-8, 0.0, 709.0}, EML_REFUSED_PARAMETER},
-    {{20, 1e-8, -0.0, 709.0}, EML_REFUSED_PARAMETER},
-    {{20, 1e-8, -1e-12, 709.0}, EML_REFUSED_PARAMETER},
-    {{20, 1e-8, NAN, 709.0}, EML_REFUSED_PARAMETER},
-    {{20, 1e-8, 1e-12, 1.0 - DBL_EPSILON / 2.0}, EML_REFUSED_PARAMETER},
-    {{20, 1e-8, 1e-12, 709.0 * (1.0 + DBL_EPSILON)}, EML_REFUSED_PARAMETER},
-    {{20, 1e-8, 1e-12, NAN}, EML_REFUSED_PARAMETER},
+    {{1, 1e-8, 1e-12, 1.0, false}, 0},
+    {{100, DBL_MAX, DBL_TRUE_MIN, 709.0, false}, 0},
+    {{20, 1e-8, 1e-8 - 1e-23, 708.5, false}, 0},
+    {{0, 1e-8, 1e-12, 709.0, false}, EML_REFUSED_PARAMETER},
+    {{101, 1e-8, 1e-12, 709.0, false}, EML_REFUSED_PARAMETER},
+    {{SIZE_MAX, 1e-8, 1e-12, 709.0, false}, EML_REFUSED_PARAMETER},
+    {{20, 1e-12, 1e-12, 709.0, false}, EML_REFUSED_PARAMETER},
+    {{20, INFINITY, 1e-12, 709.0, false}, EML_REFUSED_PARAMETER},
+    {{20, NAN, 1e-12, 709.0, false}, EML_REFUSED_PARAMETER},
+    {{20, 1e-8, 0.0, 709.0, false}, EML_REFUSED_PARAMETER},
+    {{20, 1e-8, -0.0, 709.0, false}, EML_REFUSED_PARAMETER},
+    {{20, 1e-8, -1e-12, 709.0, false}, EML_REFUSED_PARAMETER},
+    {{20, 1e-8, NAN, 709.0, false}, EML_REFUSED_PARAMETER},
+    {{20, 1e-8, 1e-12, 1.0 - DBL_EPSILON / 2.0, false}, EML_REFUSED_PARAMETER},
+    {{20, 1e-8, 1e-12, 709.0 * (1.0 + DBL_EPSILON), false}, EML_REFUSED_PARAMETER},
+    {{20, 1e-8, 1e-12, NAN, false}, EML_REFUSED_PARAMETER},
 };
 
 static void settings(void) {
     const eml_settings usual = eml_usual_settings();
-    HOLDS(usual.rounds == 20 && usual.equality == 1e-8 && usual.slack == 1e-12 && usual.clamp == 709.0);
+    HOLDS(usual.rounds == 20 && usual.equality == 1e-8 && usual.slack == 1e-12 && usual.clamp == 709.0 && !usual.strict);
     HOLDS(eml_test_settings(usual) == 0);
     for (size_t i = 0; i < sizeof TESTED / sizeof *TESTED; i++) {
-        HOLDS(eml_test_settings(TESTED[i].settings) == TESTED[i].refusal);
+        eml_settings tested = TESTED[i].settings;
+        HOLDS(eml_test_settings(tested) == TESTED[i].refusal);
+        tested.strict = true;
+        HOLDS(eml_test_settings(tested) == TESTED[i].refusal);
     }
+    /* The package's tests/settings.rs has the same numbers. */
+    HOLDS(sizeof usual == 40 && offsetof(eml_settings, rounds) == 0 && offsetof(eml_settings, equality) == 8);
+    HOLDS(offsetof(eml_settings, slack) == 16 && offsetof(eml_settings, clamp) == 24 && offsetof(eml_settings, strict) == 32);
 }
 
 /* Variable 0 is at least 0, in [-0.5,0.25]. */
@@ -257,6 +274,92 @@ static void other_settings(void) {
     HOLDS(kind == EML_EVAL_VALUE && near(value, 4.4816890703380645));
     HOLDS(eml_residual(both, sizeof both, equal, EML_CONSTRAINT_BYTES, three, 2, clamped, &value) == 0);
     HOLDS(near(value, 4.4816890703380645));
+}
+
+/* What a strict evaluation of node 3, exp(v1), answers at the edges of document 01's clamp. */
+static void strict_evaluations(const eml_parts *parts, eml_settings strict) {
+    const double above = eml_next_up(709.0);
+    const struct {
+        double x;
+        uint8_t kind;
+    } edges[] = {
+        {709.0, EML_EVAL_VALUE},
+        {above, EML_EVAL_EXP_OVERFLOW},
+        {1418.0, EML_EVAL_EXP_OVERFLOW},
+        {INFINITY, EML_EVAL_EXP_OVERFLOW},
+        {-709.0, EML_EVAL_VALUE},
+        {-above, EML_EVAL_EXP_OVERFLOW},
+        {-INFINITY, EML_EVAL_EXP_OVERFLOW},
+        {NAN, EML_EVAL_NAN_ENCOUNTERED},
+    };
+    for (size_t i = 0; i < sizeof edges / sizeof *edges; i++) {
+        const double point[] = {0.0, edges[i].x}, x = edges[i].x;
+        uint8_t kind = 0xAA;
+        double value = 9.0;
+        size_t index = 9, count = 9;
+        HOLDS(eml_eval_real(parts->nodes, parts->nodes_length, 3, point, 2, strict, &kind, &value, &index, &count) == 0);
+        HOLDS(kind == edges[i].kind && index == 9 && count == 9);
+        HOLDS(value == (kind == EML_EVAL_VALUE ? eml_exp(x) : kind == EML_EVAL_EXP_OVERFLOW ? x : 9.0));
+        HOLDS(eml_eval_real(parts->nodes, parts->nodes_length, 3, point, 2, USUAL, &kind, &value, &index, &count) == 0);
+        HOLDS(kind == (isnan(x) ? EML_EVAL_NAN_ENCOUNTERED : EML_EVAL_VALUE));
+    }
+}
+
+#define PARTS parts.nodes, parts.nodes_length, parts.constraints, parts.constraints_length
+
+/*
+ * exp(v0) is above ln(exp(v1)), v0 in [6.5,6.63], v1 in [600,1000]: each call that gets settings, without the flag and with it. Where
+ * v1 is beyond the clamp, exp(v1) is clamped or an error.
+ */
+static void strict_settings(const char *path) {
+    const size_t length = read_file(path);
+    if (length == 0) {
+        return;
+    }
+    eml_parts parts;
+    HOLDS(eml_file_parts(file, length, &parts) == 0);
+    const int two = 2;
+    eml_settings strict = eml_usual_settings();
+    strict.strict = two; /* as true: a bool of C is so for every value that is not 0 */
+    HOLDS(strict.strict == true && eml_test_settings(strict) == 0);
+    strict_evaluations(&parts, strict);
+
+    const double clamped[] = {6.6, 800.0};
+    bool passes = false;
+    double value = 9.0;
+    HOLDS(eml_check(PARTS, clamped, 2, USUAL, &passes) == 0 && passes);
+    HOLDS(eml_check(PARTS, clamped, 2, strict, &passes) == 0 && !passes);
+    HOLDS(eml_residual(PARTS, clamped, 2, USUAL, &value) == 0 && value == 0.0);
+    HOLDS(eml_residual(PARTS, clamped, 2, strict, &value) == 0 && value == INFINITY);
+
+    eml_solution solution;
+    HOLDS(eml_solve_file_to(file, length, 10000, 1e-8, USUAL, &solution) == 0 && solution.stop == EML_ASSIGNMENT);
+    HOLDS(solution.halvings == 0 && solution.point[1] == 800.0);
+    HOLDS(eml_solve_file_to(file, length, 10000, 1e-8, strict, &solution) == 0 && solution.stop == EML_ASSIGNMENT);
+    HOLDS(solution.halvings == 1 && solution.point[1] == 700.0);
+    HOLDS(eml_solve_to(PARTS, parts.lo, 2, parts.hi, 2, 10000, 1e-8, USUAL, &solution) == 0 && solution.point[1] == 800.0);
+    HOLDS(eml_solve_to(PARTS, parts.lo, 2, parts.hi, 2, 10000, 1e-8, strict, &solution) == 0 && solution.point[1] == 700.0);
+
+    /* Decisions, with v0 at 0. */
+    uint8_t verdict = 0xAA, answer = 0xAA;
+    size_t count = 9;
+    double found[] = {9.0, 9.0};
+    HOLDS(eml_decide_forall(PARTS, 1, -900.0, -800.0, 2, USUAL, &verdict, &count, found, 2) == 0 && verdict == EML_UNKNOWN);
+    HOLDS(eml_decide_forall(PARTS, 1, -900.0, -800.0, 2, strict, &verdict, &count, found, 2) == 0);
+    HOLDS(verdict == EML_FALSE_WITH_COUNTEREXAMPLE && count == 2 && found[1] == -900.0);
+    HOLDS(eml_decide_exists(PARTS, 1, -900.0, -800.0, 2, USUAL, &verdict, &count, found, 2) == 0);
+    HOLDS(verdict == EML_TRUE_WITH_WITNESS && count == 2 && found[1] == -850.0);
+    HOLDS(eml_decide_exists(PARTS, 1, -900.0, -800.0, 2, strict, &verdict, &count, found, 2) == 0 && verdict == EML_UNKNOWN);
+
+    /* Narrowing is the same: exp of an interval is not clamped. */
+    const eml_settings either[] = {USUAL, strict};
+    for (int i = 0; i < 2; i++) {
+        double lo[] = {6.0, 600.0}, hi[] = {6.5, 700.0};
+        HOLDS(eml_propagate(PARTS, either[i], lo, 2, hi, 2, &answer) == 0 && answer == EML_PROP_CHANGED);
+        HOLDS(near(lo[0], 6.396929655216146) && lo[1] == 600.0 && hi[0] == 6.5 && eml_abs(hi[1] - 665.1416330443618) < 1e-12);
+        eml_interval boxes[] = {{parts.lo[0], parts.hi[0]}, {parts.lo[1], parts.hi[1]}};
+        HOLDS(eml_propagate_intervals(PARTS, either[i], boxes, 2, &answer) == 0 && answer == EML_PROP_STABLE);
+    }
 }
 
 /* The refusals of a call in their order: of the file or the records, of the settings, and of what else it is given. */
@@ -425,8 +528,8 @@ static void intervals(void) {
 }
 
 int main(int argc, char **argv) {
-    if (argc != 2) {
-        fprintf(stderr, "usage: %s FILE\n", argv[0]);
+    if (argc != 3) {
+        fprintf(stderr, "usage: %s FALSE_CONFLICT CLAMPED\n", argv[0]);
         return 2;
     }
     files(argv[1]);
@@ -438,6 +541,7 @@ int main(int argc, char **argv) {
     points();
     settings();
     other_settings();
+    strict_settings(argv[2]);
     refused_settings();
     building();
     numbers();

@@ -119,10 +119,11 @@ static inline const char *eml_refusal_text(uint8_t refusal) {
 /* ---- settings */
 
 /*
- * The numbers of document 01 that a caller may change. Each call that uses one of them gets all four, by value, and takes
- * document 01's steps with them. After the file or the records (eml_eval_real: and after the node's number), and before all
- * else that it was given, it tests them, and refuses with 14 where one is outside its range or a NaN, also where it would not
- * use that one. An imaginary part below 1e-12 still counts as none, and the 1e-12 in the residual of a Not stays too.
+ * The four numbers of document 01 that a caller may change, and whether evaluation is strict. Each call that uses one of these
+ * gets all of them, by value, and takes document 01's steps with the numbers. After the file or the records (eml_eval_real: and
+ * after the node's number), and before all else that it was given, it tests the numbers, and refuses with 14 where one is
+ * outside its range or a NaN, also where it would not use that one. An imaginary part below 1e-12 still counts as none, and
+ * the 1e-12 in the residual of a Not stays too.
  */
 typedef struct eml_settings {
     /* Narrowing goes over the constraint until nothing changes, but at most so many times: 1 to 100. */
@@ -137,24 +138,37 @@ typedef struct eml_settings {
      */
     double slack;
     /*
-     * The clamp, 1 to 709. At a point, exp of an argument above it is exp(clamp), and of one below its negative exp(-clamp).
-     * Narrowing does not clamp. Since ln(x) is made as e - ln(exp(e - ln(x))), and x - y as exp(ln(x)) - ln(exp(y)), in a
-     * comparison y counts as no less than -clamp and no more than clamp, and the magnitude of x, whose sign stays, as no less
-     * than exp(e - clamp) and no more than exp(clamp): under a clamp of 5 each x from 0 to 0.1021 counts as 0.1021, and -0.05
-     * as -0.1021. Under a clamp below e/2 every magnitude of x counts as exp(clamp).
+     * The clamp, 1 to 709. At a point, exp of an argument above it is exp(clamp), and of one below its negative exp(-clamp),
+     * unless evaluation is strict (below). Narrowing does not clamp. Since ln(x) is made as e - ln(exp(e - ln(x))), and x - y
+     * as exp(ln(x)) - ln(exp(y)), in a comparison y counts as no less than -clamp and no more than clamp, and the magnitude of
+     * x, whose sign stays, as no less than exp(e - clamp) and no more than exp(clamp): under a clamp of 5 each x from 0 to
+     * 0.1021 counts as 0.1021, and -0.05 as -0.1021. Under a clamp below e/2 every magnitude of x counts as exp(clamp). Where
+     * evaluation is strict, an x or a y beyond these ends is an error, and under a clamp below e/2 every x is.
      */
     double clamp;
+    /*
+     * Whether evaluation is strict; document 01's is not. Either value is taken. A bool of C is true for every value that is
+     * not 0. A strict evaluation clamps no exp: an Eml node whose left value has a real part above the clamp or below its
+     * negative, an infinite one too, makes it answer EML_EVAL_EXP_OVERFLOW. This is an error as any other: an atom does not
+     * pass the check where the evaluation of its node ends so, and its residual is +inf there, of EML_KIND_NE_ZERO 0.
+     *
+     * So an assignment of a constraint without EML_KIND_NOT, EML_KIND_FORALL and EML_KIND_EXISTS that is found with this set
+     * was met without clamping in the atoms that made it true. More is not promised: EML_KIND_NOT passes where what it takes
+     * fails by an error, and narrowing is as without this. It takes exp of intervals, which it neither clamps nor tests.
+     */
+    bool strict;
 } eml_settings;
 
 /*
- * Document 01's numbers: 20, 1e-8, 1e-12 and 709. To have others, change these, so that what a later version adds is as usual:
+ * Document 01's numbers: 20, 1e-8, 1e-12 and 709. Not strict. To have others, change these, so that what a later version adds
+ * is as usual:
  *
  *   eml_settings settings = eml_usual_settings();
  *   settings.equality = 0.001;
  */
 eml_settings eml_usual_settings(void);
 
-/* Tests settings, as each call that gets them does: 14, or 0. */
+/* Tests settings, as each call that gets them does: 14, or 0. Strict or not, the answer is the same. */
 uint8_t eml_test_settings(eml_settings settings);
 
 /* ---- the bits of a double */
@@ -350,11 +364,11 @@ static inline const char *eml_stop_word(uint8_t stop) {
 
 /*
  * Solves a house file. `limit` is the most halvings, and a box is narrow below `tolerance`. An assignment has its values in the
- * first `count` places of `point`, and its `residual` is +0. It is `exact` where there are no variables, or the limit is above
- * 0 and the box was narrower than the tolerance before any halving. Any other answer has no values, its `exact` is false, and
- * its residual is in `residual`: +inf for conflict and unsatisfied. `halvings` is how many halves were written, at most
- * `limit`. Refused with 1 to 7, 14, 8, and with 10 where `point` has fewer places than the constraint has variables; 16 are
- * enough for every file.
+ * first `count` places of `point`, and its `residual` is +0. It passes eml_check under the same settings. It is `exact` where
+ * there are no variables, or the limit is above 0 and the box was narrower than the tolerance before any halving. Any other
+ * answer has no values, its `exact` is false, and its residual is in `residual`: +inf for conflict and unsatisfied. `halvings`
+ * is how many halves were written, at most `limit`. Refused with 1 to 7, 14, 8, and with 10 where `point` has fewer places than
+ * the constraint has variables; 16 are enough for every file.
  */
 uint8_t eml_solve_file(const uint8_t *file, size_t length, size_t limit, double tolerance, eml_settings settings,
                        uint8_t *stop, bool *exact, double *residual, size_t *halvings, size_t *count, double *point,
@@ -406,16 +420,18 @@ enum { EML_TRUE = 0, EML_TRUE_WITH_WITNESS = 1, EML_FALSE_WITH_COUNTEREXAMPLE = 
 /*
  * Whether the constraint holds for every value of variable `var` in [lo, hi]: EML_TRUE where propagation of its negation
  * meets a conflict, which is no proof; else by five samples, which have the other variables of `num_vars` at 0, in order: lo, hi,
- * the middle, and a tenth from either end. The counterexample is in the first `count` places of `point`. Refused with 14, with
- * 9 for over 16 variables or an unsound range, and with 10 where `point` has fewer than `num_vars` places.
+ * the middle, and a tenth from either end. The first that does not pass eml_check under these settings is the counterexample,
+ * in the first `count` places of `point`: it may be one at which an evaluation fails, as a strict one does beyond the clamp.
+ * Refused with 14, with 9 for over 16 variables or an unsound range, and with 10 where `point` has fewer than `num_vars`
+ * places.
  */
 uint8_t eml_decide_forall(const uint8_t *nodes, size_t nodes_length, const uint8_t *constraints, size_t constraints_length,
                           size_t var, double lo, double hi, size_t num_vars, eml_settings settings, uint8_t *verdict,
                           size_t *count, double *point, size_t point_length);
 
 /*
- * Whether it holds for some value, by five samples in order: the middle, lo, hi, and a quarter from either end; the point is the
- * witness. Refused as eml_decide_forall is.
+ * Whether it holds for some value, by five samples in order: the middle, lo, hi, and a quarter from either end. The first that
+ * passes eml_check under these settings is the witness. Refused as eml_decide_forall is.
  */
 uint8_t eml_decide_exists(const uint8_t *nodes, size_t nodes_length, const uint8_t *constraints, size_t constraints_length,
                           size_t var, double lo, double hi, size_t num_vars, eml_settings settings, uint8_t *verdict,
@@ -473,24 +489,31 @@ enum {
     EML_EVAL_VAR_OUT_OF_BOUNDS = 1,
     EML_EVAL_NAN_ENCOUNTERED = 2,
     EML_EVAL_COMPLEX_RESULT = 3,
-    /* An exp beyond the clamp, in a strict evaluation. No call evaluates strictly yet, so none answers this. */
+    /* An Eml node's left value has a real part beyond the clamp. Only strict evaluation answers this. */
     EML_EVAL_EXP_OVERFLOW = 4
 };
 
 /*
- * A node's value at a point, to `value`; a complex result has the magnitude of its imaginary part there. A variable out of
- * bounds has its number in `index` and the number of the point's values in `count`. A place that the answer has nothing for
- * stays. Only the nodes are tested, with 2 to 4; then 3 is for no such node, 14 for the settings, and 9 for a point of over 16
- * values.
+ * A node's value at a point, to `value`; a complex result has the magnitude of its imaginary part there, and an exp overflow
+ * the real part that is beyond the clamp. A variable out of bounds has its number in `index` and the number of the point's
+ * values in `count`. A place that the answer has nothing for stays. Of more errors than one it is the first in postorder; at
+ * one node an exp overflow goes before a NaN, but a left real part that is a NaN is not beyond the clamp. Only the nodes are
+ * tested, with 2 to 4; then 3 is for no such node, 14 for the settings, and 9 for a point of over 16 values.
  */
 uint8_t eml_eval_real(const uint8_t *nodes, size_t nodes_length, size_t node, const double *point, size_t point_length,
                       eml_settings settings, uint8_t *kind, double *value, size_t *index, size_t *count);
 
-/* Whether a point passes the check, to `passes`. Refused with 14, and with 9 for a point of over 16 values. */
+/*
+ * Whether a point passes the check, to `passes`. An atom does not pass where the evaluation of its node is an error. Refused
+ * with 14, and with 9 for a point of over 16 values.
+ */
 uint8_t eml_check(const uint8_t *nodes, size_t nodes_length, const uint8_t *constraints, size_t constraints_length,
                   const double *point, size_t point_length, eml_settings settings, bool *passes);
 
-/* A point's residual, to `out`. Refused with 14, and with 9 for a point of over 16 values. */
+/*
+ * A point's residual, to `out`. Of an atom it is +inf where the evaluation of its node is an error, and 0 of EML_KIND_NE_ZERO.
+ * Refused with 14, and with 9 for a point of over 16 values.
+ */
 uint8_t eml_residual(const uint8_t *nodes, size_t nodes_length, const uint8_t *constraints, size_t constraints_length,
                      const double *point, size_t point_length, eml_settings settings, double *out);
 

@@ -23,7 +23,9 @@ pub enum Evaluation {
     NanEncountered,
     /// A value that is not real, with the magnitude of its imaginary part.
     ComplexResult(f64),
-    /// An exp beyond the clamp, in a strict evaluation. No call evaluates strictly yet, so none answers this.
+    /// An Eml node's left value has this real part, which is beyond the clamp: above it or below its negative, infinities
+    /// included. Only a [`strict`](crate::Settings::strict) evaluation answers this, and at one node before
+    /// [`NanEncountered`](Self::NanEncountered). A real part that is a NaN is not beyond the clamp.
     ExpOverflow(f64),
 }
 

@@ -16,7 +16,7 @@ use crate::{Interval, Records, Refusal, Settings};
 // What holds of every call below: a pointer and its length are those of one slice, which lives and, where it is written, is lent
 // to nobody else until the call returns. The library takes every content, reads and writes within the slices and the places
 // that it is lent, and keeps none of them. The lines at the calls say which slices and places these are. Settings go by value; the
-// library has them as a usize and three f64, and so has `Settings`, by its `repr(C)`.
+// library has them as a usize, three f64 and a bool, in C's layout, and so has `Settings`, by its `repr(C)`.
 
 /// Tests a file.
 pub fn read(file: &[u8]) -> Result<(), Refusal> {
@@ -145,7 +145,7 @@ comparison!(
     eml_ge
 );
 
-/// Document 01's numbers.
+/// Document 01's numbers, not strict.
 #[must_use]
 pub fn usual_settings() -> Settings {
     raw::eml_usual_settings()

@@ -106,7 +106,7 @@ impl<'a> Records<'a> {
         self.eval_real_with(node, point, Settings::default())
     }
 
-    /// [`eval_real`](Self::eval_real) under settings, of which it uses the clamp.
+    /// [`eval_real`](Self::eval_real) under settings, of which it uses the clamp and [`strict`](Settings::strict).
     ///
     /// ```
     /// use eml::{Evaluation, Node, Records, Settings, maths};
@@ -234,7 +234,7 @@ impl<'a> Records<'a> {
         self.residual_with(point, Settings::default())
     }
 
-    /// [`residual`](Self::residual) under settings, of which it uses the clamp.
+    /// [`residual`](Self::residual) under settings, of which it uses the clamp and [`strict`](Settings::strict).
     ///
     /// # Errors
     ///

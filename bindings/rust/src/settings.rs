@@ -1,11 +1,11 @@
-//! The numbers that a caller may change.
+//! The numbers that a caller may change, and the strict flag.
 
 use crate::{Refusal, calls};
 
-/// The numbers of document 01 that a caller may change. [`Settings::default`] has document 01's, by which
-/// [`Records::solve`](crate::Records::solve) and the other calls go; the twin of each, `solve_with` and so on, receives settings
-/// and takes document 01's steps with them. An imaginary part below 1e-12 still counts as none, and the 1e-12 in the residual of
-/// a Not stays too.
+/// The four numbers of document 01 that a caller may change, and whether evaluation is strict. [`Settings::default`] has document
+/// 01's, by which [`Records::solve`](crate::Records::solve) and the other calls go; the twin of each, `solve_with` and so on,
+/// receives settings and takes document 01's steps with their numbers. An imaginary part below 1e-12 still counts as none, and
+/// the 1e-12 in the residual of a Not stays too.
 ///
 /// An assignment passes the check under the settings that it was found under, not always under others:
 ///
@@ -27,7 +27,7 @@ use crate::{Refusal, calls};
 /// ```
 ///
 /// After the file or the records ([`Records::eval_real`](crate::Records::eval_real): and after the node's number), and before
-/// all else that it was given, a call tests them, and refuses with 14 where a number is outside its range or a NaN, also one
+/// all else that it was given, a call tests the numbers, and refuses with 14 where one is outside its range or a NaN, also one
 /// that it would not use:
 ///
 /// ```
@@ -58,17 +58,50 @@ pub struct Settings {
     pub slack: f64,
     /// The clamp, 1 to 709. Document 01's is 709.
     ///
-    /// At a point, exp of an argument above the clamp is exp(`clamp`), and of one below its negative exp(-`clamp`). Narrowing
-    /// does not clamp. Since [`canonical::ln`](crate::canonical::ln) makes ln(x) as e - ln(exp(e - ln(x))), and
-    /// [`canonical::sub`](crate::canonical::sub) x - y as exp(ln(x)) - ln(exp(y)), in a comparison y counts as no less than
-    /// -`clamp` and no more than `clamp`, and the magnitude of x, whose sign stays, as no less than exp(e - `clamp`) and no more
-    /// than exp(`clamp`): under a clamp of 5 each x from 0 to 0.1021 counts as 0.1021, and -0.05 as -0.1021. Under a clamp below
-    /// e/2 every magnitude of x counts as exp(`clamp`).
+    /// At a point, exp of an argument above the clamp is exp(`clamp`), and of one below its negative exp(-`clamp`), unless
+    /// evaluation is [`strict`](Self::strict). Narrowing does not clamp. Since [`canonical::ln`](crate::canonical::ln) makes
+    /// ln(x) as e - ln(exp(e - ln(x))), and [`canonical::sub`](crate::canonical::sub) x - y as exp(ln(x)) - ln(exp(y)), in a
+    /// comparison y counts as no less than -`clamp` and no more than `clamp`, and the magnitude of x, whose sign stays, as no
+    /// less than exp(e - `clamp`) and no more than exp(`clamp`): under a clamp of 5 each x from 0 to 0.1021 counts as 0.1021,
+    /// and -0.05 as -0.1021. Under a clamp below e/2 every magnitude of x counts as exp(`clamp`). Where evaluation is strict, an
+    /// x or a y beyond these ends is an error, and under a clamp below e/2 every x is.
     pub clamp: f64,
+    /// Whether evaluation is strict. Document 01's is not, and either value is taken.
+    ///
+    /// A strict evaluation clamps no exp: an Eml node whose left value has a real part above the clamp or below its negative, an
+    /// infinite one too, makes it answer [`Evaluation::ExpOverflow`](crate::Evaluation::ExpOverflow) with that real part. This
+    /// is an error as any other: an atom does not pass the check where the evaluation of its node ends so, and its residual is
+    /// +inf there.
+    ///
+    /// So an assignment of a constraint without Not, ForAll and Exists that is found in strict mode was met without clamping in
+    /// the atoms that made it true. More is not promised:
+    ///
+    /// - A Not passes where what it takes fails by an error. The normal form ([`to_nnf`](crate::Records::to_nnf)) has none.
+    /// - The residual of [`NeZero`](crate::Relation::NeZero) is 0 where the evaluation of its node is an error, this one or
+    ///   another, so halving may keep a half of a box whose middle is such a point.
+    /// - Narrowing is as without the flag. It takes exp of intervals, which it neither clamps nor tests.
+    ///
+    /// ```
+    /// use eml::{Evaluation, Node, Records, Settings, maths};
+    ///
+    /// // exp(v0) - ln(1).
+    /// let nodes = [Node::Var(0), Node::One, Node::Eml { left: 0, right: 1 }];
+    /// let nodes = nodes.map(Node::to_bytes).concat();
+    /// let records = Records { nodes: &nodes, constraints: &[] };
+    /// let clamped = Evaluation::Value(maths::exp(709.0));
+    /// assert_eq!(records.eval_real(2, &[800.0])?, clamped);
+    /// let mut settings = Settings::default();
+    /// settings.strict = true;
+    /// let overflow = Evaluation::ExpOverflow(800.0);
+    /// assert_eq!(records.eval_real_with(2, &[800.0], settings)?, overflow);
+    /// # Ok::<(), eml::Refusal>(())
+    /// ```
+    pub strict: bool,
 }
 
 impl Settings {
-    /// Settings that are tested. Where only some numbers are other than the default's, change those there; the calls test them.
+    /// Settings with these numbers, which are tested; not strict. Where only some fields are to be other than the default's, change
+    /// those there; the calls test them.
     ///
     /// ```
     /// use eml::{Refusal, Settings};
@@ -77,6 +110,11 @@ impl Settings {
     /// assert_eq!(Settings::new(0, 0.001, 1e-12, 709.0), Err(Refusal::Parameter));
     /// assert_eq!(Settings::new(20, 0.001, 0.001, 709.0), Err(Refusal::Parameter));
     /// assert_eq!(Settings::new(20, 0.001, 1e-12, 710.0), Err(Refusal::Parameter));
+    /// let mut settings = Settings::new(20, 0.001, 1e-12, 700.0)?;
+    /// assert!(!settings.strict);
+    /// settings.strict = true;
+    /// assert!(settings.test().is_ok());
+    /// # Ok::<(), Refusal>(())
     /// ```
     ///
     /// # Errors
@@ -88,12 +126,13 @@ impl Settings {
             equality,
             slack,
             clamp,
+            strict: false,
         };
         settings.test()?;
         Ok(settings)
     }
 
-    /// Tests them, as every call does that receives them.
+    /// Tests the numbers, as every call does that receives them. Strict or not, the answer is the same.
     ///
     /// # Errors
     ///
@@ -103,7 +142,7 @@ impl Settings {
     }
 }
 
-/// Document 01's numbers.
+/// Document 01's numbers, not strict.
 impl Default for Settings {
     // As `calls::usual_settings` has them, without a call of the library.
     fn default() -> Self {
@@ -112,6 +151,7 @@ impl Default for Settings {
             equality: 1e-8,
             slack: 1e-12,
             clamp: 709.0,
+            strict: false,
         }
     }
 }

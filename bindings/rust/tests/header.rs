@@ -126,15 +126,16 @@ fn the_settings() {
     let text = format!("{usual:?}");
     let names = text.split(['{', ',']).skip(1);
     let names = names.map(|field| field.trim().split(':').next().expect("a name"));
-    let types = ["size_t", "double", "double", "double"];
+    let types = ["size_t", "double", "double", "double", "bool"];
     let expected = types
         .iter()
         .zip(names)
         .map(|(kind, name)| format!("{kind} {name};"));
     assert!(fields.eq(expected));
     let (rounds, equality, slack, clamp) = (usual.rounds, usual.equality, usual.slack, usual.clamp);
+    assert!(!usual.strict);
     has(&format!(
-        "Document 01's numbers: {rounds}, {equality:e}, {slack:e} and {clamp}."
+        "Document 01's numbers: {rounds}, {equality:e}, {slack:e} and {clamp}. Not strict."
     ));
 }
 
@@ -173,21 +174,33 @@ fn the_kinds_of_records() {
     }
 }
 
-/// The number that the library writes beside the package's name for it. No call answers ExpOverflow.
+/// The number that the library writes beside the package's name for it, in strict evaluations, which answer every kind.
 #[test]
 fn the_evaluations() {
-    let nodes = [Node::Var(0), Node::One, Node::Eml { left: 1, right: 0 }];
+    let (ln, exp) = (
+        Node::Eml { left: 1, right: 0 },
+        Node::Eml { left: 0, right: 1 },
+    );
+    let nodes = [Node::Var(0), Node::One, ln, exp];
     let nodes = nodes.map(Node::to_bytes).concat();
     let records = Records {
         nodes: &nodes,
         constraints: &[],
     };
-    let cases: [(usize, &[f64]); 4] = [(0, &[2.0]), (0, &[]), (0, &[f64::NAN]), (2, &[-1.0])];
+    let mut strict = Settings::default();
+    strict.strict = true;
+    let cases: [(usize, &[f64]); 5] = [
+        (0, &[2.0]),
+        (0, &[]),
+        (0, &[f64::NAN]),
+        (2, &[-1.0]),
+        (3, &[800.0]),
+    ];
     for (number, (node, point)) in (0..).zip(cases) {
         let mut to = EvalPlaces::default();
-        calls::eval_real(&nodes, node, point, Settings::default(), &mut to).expect("sound");
+        calls::eval_real(&nodes, node, point, strict, &mut to).expect("sound");
         assert_eq!(to.kind, number);
-        let evaluation = records.eval_real(node, point).expect("sound");
+        let evaluation = records.eval_real_with(node, point, strict).expect("sound");
         has_number(&format!("EVAL_{}", variant_in_c(&evaluation)), number);
     }
 }

@@ -1,21 +1,24 @@
-//! Settings: their ranges, where their refusal comes among the others, and that every call that receives them answers by them.
+//! Settings: their layout and ranges, where their refusal comes among the others, and that every call that receives them answers by
+//! them.
 
 use eml::calls::{self, DecidePlaces, EvalPlaces, SolvePlaces};
 use eml::number::{next_down, next_up};
 use eml::{
     Constraint, Decision, DecisionError, Evaluation, Interval, Node, Problem, Propagation, Records,
-    Refusal, Relation, Settings, Stop, maths, solve_file, solve_file_with,
+    Refusal, Relation, Settings, Stop, ge, gt, le, lt, maths, solve_file, solve_file_with,
 };
 use std::fmt::Debug;
+use std::mem::offset_of;
 
 const TWO_BARS: &[u8] = include_bytes!("../../../examples/two_bars.emlq");
+const CLAMPED: &[u8] = include_bytes!("../../../examples/clamped.emlq");
 
 /// Document 01's numbers.
 const USUAL: Numbers = (20, 1e-8, 1e-12, 709.0);
 
 type Numbers = (usize, f64, f64, f64);
 
-/// Settings that are not tested.
+/// Settings that are not tested; not strict.
 fn untested((rounds, equality, slack, clamp): Numbers) -> Settings {
     let mut settings = Settings::default();
     settings.rounds = rounds;
@@ -23,6 +26,18 @@ fn untested((rounds, equality, slack, clamp): Numbers) -> Settings {
     settings.slack = slack;
     settings.clamp = clamp;
     settings
+}
+
+/// The same, in strict mode.
+fn strict(numbers: Numbers) -> Settings {
+    let mut settings = untested(numbers);
+    settings.strict = true;
+    settings
+}
+
+/// With either value of the flag.
+fn either(numbers: Numbers) -> [Settings; 2] {
+    [untested(numbers), strict(numbers)]
 }
 
 /// Numbers at the edges of their ranges.
@@ -71,21 +86,34 @@ fn refused() -> Vec<Numbers> {
     list
 }
 
+/// The record as C has it where a `size_t` has 8 bytes; bindings/c/calls.c has the same numbers.
+#[test]
+fn layout() {
+    assert_eq!((size_of::<Settings>(), align_of::<Settings>()), (40, 8));
+    assert_eq!(offset_of!(Settings, rounds), 0);
+    assert_eq!(offset_of!(Settings, equality), 8);
+    assert_eq!(offset_of!(Settings, slack), 16);
+    assert_eq!(offset_of!(Settings, clamp), 24);
+    assert_eq!(offset_of!(Settings, strict), 32);
+}
+
 #[test]
 fn ranges() {
     assert_eq!(Settings::default(), untested(USUAL));
     assert_eq!(Settings::default(), calls::usual_settings());
+    assert!(!calls::usual_settings().strict);
     for numbers in taken() {
         let (rounds, equality, slack, clamp) = numbers;
         let made = Settings::new(rounds, equality, slack, clamp);
         assert_eq!(made, Ok(untested(numbers)));
-        assert_eq!(untested(numbers).test(), Ok(()));
+        assert_eq!(either(numbers).map(|s| s.test()), [Ok(()); 2]);
     }
     for numbers in refused() {
         let (rounds, equality, slack, clamp) = numbers;
         let made = Settings::new(rounds, equality, slack, clamp);
         assert_eq!(made, Err(Refusal::Parameter), "{numbers:?}");
-        assert_eq!(untested(numbers).test(), Err(Refusal::Parameter));
+        let parameter = Err(Refusal::Parameter);
+        assert_eq!(either(numbers).map(|s| s.test()), [parameter; 2]);
     }
 }
 
@@ -179,12 +207,12 @@ fn the_order_of_refusals() {
     let faults = [
         boxes, boxes, boxes, boxes, boxes, limit, limit, boxes, boxes,
     ];
-    for settings in taken().into_iter().map(untested) {
+    for settings in taken().into_iter().flat_map(either) {
         assert_eq!(answers(true, settings, true), damaged);
         assert_eq!(answers(false, settings, true), faults);
         assert_eq!(answers(false, settings, false), [Ok(()); 9]);
     }
-    for settings in refused().into_iter().map(untested) {
+    for settings in refused().into_iter().flat_map(either) {
         assert_eq!(answers(true, settings, true), damaged);
         for fault in [false, true] {
             let parameter = Err(Refusal::Parameter);
@@ -331,4 +359,218 @@ fn rounds() {
     let once = under(untested((1, 1e-8, 1e-12, 709.0)));
     assert_eq!(once[0], usual[0]);
     assert!((once[1].lo - maths::exp(maths::exp(-1.0))).abs() < 1e-14);
+}
+
+/// exp(v0) under clamps: beyond the clamp, infinities too, it is an error with v0 in strict mode, and clamped else.
+#[test]
+fn strict_evaluations() {
+    let nodes = nodes();
+    let records = Records {
+        nodes: &nodes,
+        constraints: &[],
+    };
+    let at = |x, settings| records.eval_real_with(2, &[x], settings).expect("taken");
+    for clamp in [1.0, next_up(1.0), 2.5, next_down(709.0), 709.0] {
+        let numbers = (20, 1e-8, 1e-12, clamp);
+        let exp = |x| Evaluation::Value(maths::exp(x));
+        for x in [0.0, 1.0, next_down(clamp), clamp] {
+            for x in [x, -x] {
+                assert_eq!(either(numbers).map(|s| at(x, s)), [exp(x); 2]);
+            }
+        }
+        for x in [next_up(clamp), 2.0 * clamp, f64::MAX, f64::INFINITY] {
+            for (x, end) in [(x, clamp), (-x, -clamp)] {
+                let expected = [exp(end), Evaluation::ExpOverflow(x)];
+                assert_eq!(either(numbers).map(|s| at(x, s)), expected);
+            }
+        }
+        let nan = [Evaluation::NanEncountered; 2];
+        assert_eq!(either(numbers).map(|s| at(f64::NAN, s)), nan);
+    }
+}
+
+/// The error takes its place in postorder, after those of the two values that the node is made of, and at one node it goes before a NaN.
+#[test]
+fn strict_in_postorder() {
+    let nodes = [
+        Node::Var(0),
+        Node::Var(1),
+        Node::Var(2),
+        Node::One,
+        Node::Eml { left: 0, right: 1 },
+        Node::Eml { left: 2, right: 3 },
+        Node::Eml { left: 4, right: 5 },
+    ];
+    let nodes = nodes.map(Node::to_bytes).concat();
+    let records = Records {
+        nodes: &nodes,
+        constraints: &[],
+    };
+    let at = |node, point: &[f64]| {
+        let answer = records.eval_real_with(node, point, strict(USUAL));
+        answer.expect("taken")
+    };
+    let (index, count) = (1, 1);
+    let missing = Evaluation::VarOutOfBounds { index, count };
+    let nan = f64::NAN;
+    assert_eq!(at(4, &[800.0]), missing);
+    assert_eq!(at(4, &[800.0, nan]), Evaluation::ExpOverflow(800.0));
+    assert_eq!(at(4, &[nan, nan]), Evaluation::NanEncountered);
+    assert_eq!(at(4, &[0.0, nan]), Evaluation::NanEncountered);
+    assert_eq!(at(6, &[800.0, 1.0, 900.0]), Evaluation::ExpOverflow(800.0));
+    assert_eq!(at(6, &[0.0, 1.0, -900.0]), Evaluation::ExpOverflow(-900.0));
+    assert_eq!(at(6, &[nan, 1.0, 900.0]), Evaluation::NanEncountered);
+    assert_eq!(at(6, &[0.0, nan, 900.0]), Evaluation::NanEncountered);
+    // A value that is beyond the clamp, of which exp is taken.
+    assert_eq!(
+        at(6, &[0.0, 0.0, 0.0]),
+        Evaluation::ExpOverflow(f64::INFINITY)
+    );
+    assert_eq!(
+        at(6, &[0.0, f64::INFINITY, 0.0]),
+        Evaluation::ExpOverflow(f64::NEG_INFINITY)
+    );
+    assert_eq!(
+        at(6, &[7.0, 1.0, 0.0]),
+        Evaluation::ExpOverflow(maths::exp(7.0))
+    );
+    // The real part of a value that is not real.
+    assert_eq!(
+        at(6, &[7.0, -1.0, 0.0]),
+        Evaluation::ExpOverflow(maths::exp(7.0))
+    );
+}
+
+/// exp(v0) > ln(exp(v1)), v0 in [6.5,6.63], v1 in [600,1000]: what each method answers without the flag, and with it.
+#[test]
+fn strict_calls() {
+    let settings = either(USUAL);
+    let problem = Problem::from_bytes(CLAMPED).expect("taken");
+    let (records, bounds) = (problem.records(), problem.bounds());
+    let v1 = |solution: Result<eml::Solution, Refusal>| {
+        let solution = solution.expect("taken");
+        assert_eq!(solution.stop, Stop::Assignment);
+        (solution.halvings, solution.point[1])
+    };
+    let expected = [(0, 800.0), (1, 700.0)];
+    let solved = settings.map(|s| v1(problem.solve_with(10_000, 1e-8, s)));
+    assert_eq!(solved, expected);
+    let solved = settings.map(|s| v1(solve_file_with(CLAMPED, 10_000, 1e-8, s)));
+    assert_eq!(solved, expected);
+    let solved = settings.map(|s| v1(records.solve_with(&bounds, 10_000, 1e-8, s)));
+    assert_eq!(solved, expected);
+
+    let point = [6.565, 800.0];
+    let checked = settings.map(|s| records.check_with(&point, s));
+    assert_eq!(checked, [Ok(true), Ok(false)]);
+    let middle = settings.map(|s| records.check_midpoint_with(&bounds, s).expect("taken"));
+    assert_eq!(middle.map(|found| found.is_some()), [true, false]);
+    let residuals = settings.map(|s| records.residual_with(&point, s));
+    assert_eq!(residuals, [Ok(0.0), Ok(f64::INFINITY)]);
+
+    // Decisions about v1, with v0 at 0.
+    let far = Interval::new(-900.0, -800.0);
+    let decided = settings.map(|s| records.decide_forall_with(1, far, s).expect("taken"));
+    assert_eq!(decided[0], Decision::Unknown);
+    assert!(matches!(decided[1], Decision::FalseWithCounterexample(p) if *p == [0.0, -900.0]));
+    let decided = settings.map(|s| records.decide_exists_with(1, far, s).expect("taken"));
+    assert!(matches!(decided[0], Decision::TrueWithWitness(p) if *p == [0.0, -850.0]));
+    assert_eq!(decided[1], Decision::Unknown);
+
+    // Narrowing takes exp of intervals, which is not clamped, and answers the same.
+    for (v1, answer) in [
+        (Interval::new(600.0, 700.0), Propagation::Changed),
+        (Interval::new(600.0, 1000.0), Propagation::Stable),
+    ] {
+        let boxes = settings.map(|s| {
+            let mut boxes = [Interval::new(6.0, 6.5), v1];
+            assert_eq!(records.propagate_with(&mut boxes, s), Ok(answer));
+            let (mut lo, mut hi) = ([6.0, v1.lo], [6.5, v1.hi]);
+            let on_ends = records.propagate_ends_with(&mut lo, &mut hi, s);
+            assert_eq!(on_ends, Ok(answer));
+            assert_eq!((lo, hi), (boxes.map(|i| i.lo), boxes.map(|i| i.hi)));
+            boxes
+        });
+        assert_eq!(boxes[0], boxes[1]);
+    }
+}
+
+/// exp(v0) at 800, in strict mode: no relation of it passes, and a Not of one does. Its residual is +inf, of NeZero 0.
+#[test]
+fn strict_atoms() {
+    let nodes = nodes();
+    for number in 0..6 {
+        let relation = Relation::try_from(number).expect("a relation");
+        let constraints = [atom(relation, 2), Constraint::Not.to_bytes()].concat();
+        let records = |length| Records {
+            nodes: &nodes,
+            constraints: &constraints[..length],
+        };
+        let (own, not) = (records(24), records(48));
+        let settings = strict(USUAL);
+        assert_eq!(own.check_with(&[800.0], settings), Ok(false));
+        assert_eq!(not.check_with(&[800.0], settings), Ok(true));
+        let none = relation == Relation::NeZero;
+        let residual = if none { 0.0 } else { f64::INFINITY };
+        assert_eq!(own.residual_with(&[800.0], settings), Ok(residual));
+        let residual = if none { 1.0 } else { 0.0 };
+        assert_eq!(not.residual_with(&[800.0], settings), Ok(residual));
+    }
+}
+
+/// x - y in strict mode is an error where y is beyond the clamp c, or the magnitude of x outside exp(e - c) to exp(c). Then no comparison
+/// passes.
+#[test]
+fn strict_comparisons() {
+    let mut nodes = [Node::Var(0), Node::Var(1)].map(Node::to_bytes).concat();
+    nodes.resize(16 * 9, 0);
+    let atoms = [lt, le, gt, ge].map(|compare| compare(&mut nodes, 2, 0, 1).expect("room"));
+    let difference = |clamp, x, y| {
+        let settings = strict((20, 1e-8, 1e-12, clamp));
+        let passes = atoms.each_ref().map(|constraints| {
+            let (nodes, point) = (&nodes, &[x, y]);
+            let records = Records { nodes, constraints };
+            records.check_with(point, settings).expect("taken")
+        });
+        let constraints = &[];
+        let records = Records {
+            nodes: &nodes,
+            constraints,
+        };
+        let value = records.eval_real_with(8, &[x, y], settings);
+        let value = value.expect("taken");
+        assert_eq!(value.value().is_some(), passes.contains(&true));
+        value
+    };
+    let beyond = |clamp, x| matches!(difference(clamp, x, 0.5), Evaluation::ExpOverflow(_));
+
+    assert_eq!(
+        difference(709.0, 800.0, 900.0),
+        Evaluation::ExpOverflow(900.0)
+    );
+    assert_eq!(
+        difference(709.0, 800.0, -900.0),
+        Evaluation::ExpOverflow(-900.0)
+    );
+    assert_eq!(
+        difference(709.0, 0.0, 0.0),
+        Evaluation::ExpOverflow(f64::INFINITY)
+    );
+    assert!(difference(709.0, 800.0, 709.0).value().is_some());
+    for (clamp, least, most) in [
+        (
+            709.0,
+            1.843_941_458_532_942_8e-307,
+            8.218_407_461_555_439e307,
+        ),
+        (5.0, 0.102_108_615_793_329_39, 148.413_159_102_576_66),
+    ] {
+        assert!(!beyond(clamp, least) && beyond(clamp, next_down(least)));
+        assert!(!beyond(clamp, -least) && beyond(clamp, next_up(-least)));
+        assert!(!beyond(clamp, most) && beyond(clamp, next_up(most)));
+        assert!(beyond(clamp, -next_up(most)));
+    }
+    for x in [1e-300, 0.001, 1.0, 2.7, 3.9, 1000.0, 1e300] {
+        assert!(beyond(1.35, x) && beyond(1.35, -x));
+    }
 }
