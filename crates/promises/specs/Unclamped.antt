@@ -2,6 +2,7 @@
 -- Assumes nothing.
 use Rattle.std.specs.Prelude.{◌≡◌, refl, Bool, true, false, not, ◌&&◌, ◌||◌, ◌⊎◌, List, Float, Result, Ok, Err}
 use Rattle.std.proofs.Common.{sym, ap, ◌∙◌, inl, inr, ⊎_elim}
+use Rattle.std.proofs.lemmas.Bool.{not-true}
 use Rattle.std.specs.Float.Ieee.{neg}
 use Rattle.number.specs.Notation.{when◌then◌else◌, ◌≺◌, whole}
 use Rattle.maths.specs.declared.Complex.{Complex}
@@ -93,10 +94,6 @@ clamped_within most x e = by (most ≺ x) (x ≺ neg most) e
     by false true e = cc
     by false false e = refl
 
-not_false : (b : Bool) → not b ≡ true → b ≡ false
-not_false true e = cc
-not_false false e = refl
-
 module _ (σ : Settings) where
   node_within : (a b : Complex) → beyond σ.clamp a.re ≡ false → eml_complex σ a b ≡ eml_unclamped a b
   unfolding eml_complex eml_unclamped when◌then◌else◌
@@ -107,7 +104,7 @@ module _ (σ : Settings) where
       by false = refl
 
   both_within : (x y : Result Complex EvalError) → left_within σ.clamp x ≡ true → and_then x (λ a. and_then y (λ b. eml_complex σ a b)) ≡ and_then x (λ a. and_then y (λ b. eml_unclamped a b))
-  both_within (Ok a) (Ok b) e = node_within a b (not_false _ e)
+  both_within (Ok a) (Ok b) e = node_within a b (not-true _ e)
   both_within (Ok a) (Err f) e = refl
   both_within (Err f) y e = refl
 
