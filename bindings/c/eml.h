@@ -147,8 +147,9 @@ typedef struct eml_settings {
      */
     double clamp;
     /*
-     * Whether evaluation is strict; document 01's is not. Either value is taken. A bool of C is true for every value that is
-     * not 0. A strict evaluation clamps no exp: an Eml node whose left value has a real part above the clamp or below its
+     * Whether evaluation is strict; document 01's is not. Either value is taken. Assign it, so that every value but 0 becomes
+     * true: a byte other than 0 and 1 that is copied to its place is no bool, and the flag may then count as off. A strict
+     * evaluation clamps no exp: an Eml node whose left value has a real part above the clamp or below its
      * negative, an infinite one too, makes it answer EML_EVAL_EXP_OVERFLOW. This is an error as any other: an atom does not
      * pass the check where the evaluation of its node ends so, and its residual is +inf there, of EML_KIND_NE_ZERO 0.
      *

@@ -495,6 +495,24 @@ fn strict_calls() {
     }
 }
 
+/// The same problem with other bounds of v1, in strict mode. Where both middles overflow, the upper half is kept; where no argument of exp
+/// is beyond the clamp, the middle passes at once.
+#[test]
+fn strict_halving() {
+    let problem = Problem::from_bytes(CLAMPED).expect("taken");
+    let solve = |most| {
+        let bounds = [Interval::new(6.5, 6.63), Interval::new(600.0, most)];
+        let solution = problem
+            .records()
+            .solve_with(&bounds, 10_000, 1e-8, strict(USUAL));
+        solution.expect("taken")
+    };
+    let lost = solve(1100.0);
+    assert_eq!((lost.stop, lost.residual), (Stop::Tolerance, f64::INFINITY));
+    let within = solve(709.0);
+    assert_eq!((within.stop, within.halvings), (Stop::Assignment, 0));
+}
+
 /// exp(v0) at 800, in strict mode: no relation of it passes, and a Not of one does. Its residual is +inf, of NeZero 0.
 #[test]
 fn strict_atoms() {

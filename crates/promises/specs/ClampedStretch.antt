@@ -14,7 +14,7 @@ use Rattle.tree.specs.Tree.{Tree}
 use Rattle.constraint.specs.declared.Relation.TheVariants.{GtZero}
 use Rattle.constraint.specs.Constraint.{Atom}
 use Rattle.point.specs.declared.eval.EvalError.TheVariants.{VarOutOfBounds, NanEncountered, ExpOverflow}
-use Rattle.point.specs.Eval.{beyond, eval_real}
+use Rattle.point.specs.Eval.{eval_real}
 use Rattle.nra.specs.Solver.{Answer, assignment, solve}
 use Rattle.nra.specs.Answers.{problem}
 use Rattle.nra.specs.Computing.{computing}
@@ -43,9 +43,9 @@ pub record Clamped : Type 0 where
   pub on : solved strict ≡ assignment (mid binary64 (decimal 65 10) (decimal 663 100) ∷ whole 700 ∷ []) false 1
   pub overflow : eval_real strict (decimal 6565 1000 ∷ whole 800 ∷ []) bar ≡ Err (ExpOverflow (whole 800))
   -- the clamp and its negative are not beyond it, the next numbers are, and an infinity is
-  pub at_clamp : beyond (whole 709) (whole 709) ≡ false
+  pub at_clamp : eval_real strict [] (exp_of_const (whole 709)) ≡ eval_real usual [] (exp_of_const (whole 709))
   pub over : eval_real strict [] (exp_of_const (next_up binary64 (whole 709))) ≡ Err (ExpOverflow (next_up binary64 (whole 709)))
-  pub at_minus : beyond (whole 709) (neg (whole 709)) ≡ false
+  pub at_minus : eval_real strict [] (exp_of_const (neg (whole 709))) ≡ eval_real usual [] (exp_of_const (neg (whole 709)))
   pub under : eval_real strict [] (exp_of_const (next_down binary64 (neg (whole 709)))) ≡ Err (ExpOverflow (next_down binary64 (neg (whole 709))))
   pub infinite : eval_real strict (-∞ ∷ []) (Tree.Eml (Tree.Var 0) Tree.One) ≡ Err (ExpOverflow -∞)
   -- at one node it goes before NanEncountered; an error in the right child goes before it; and a NaN on the left is not beyond the clamp

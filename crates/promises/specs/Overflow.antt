@@ -10,6 +10,7 @@ use Rattle.maths.specs.Cplx.{complex_exp, complex_ln}
 use Rattle.settings.specs.declared.Settings.{Settings}
 use Rattle.tree.specs.Tree.{Tree}
 use Rattle.point.specs.declared.eval.Instruction.{Instruction}
+use Rattle.point.specs.declared.eval.Instruction.TheVariants.{PushOne, PushConst, PushVar, Eml}
 use Rattle.point.specs.declared.eval.EvalError.{EvalError}
 use Rattle.point.specs.declared.eval.EvalError.TheVariants.{VarOutOfBounds, NanEncountered, ComplexResult, ExpOverflow}
 use Rattle.point.specs.Eval.{real, difference, clamped, beyond, numeric, eml_complex, variable, and_then, eval_complex, real_part, eval_real}
@@ -39,9 +40,39 @@ module _ (σ : Settings) (p : List Float) where
       of_run (Ok z) w = cc
       of_run (Err f) w = cc
 
-  -- ---- who answers ExpOverflow: the flag is set, and what is reported is beyond the clamp
-  abbrev pub Reported : Float → Type 0
-  Reported x = (σ.strict ≡ true) × (beyond σ.clamp x ≡ true)
+  -- ---- where a run that fails stopped: the node i, with the stack s that those before it have left
+  record Stopped (is : List Instruction) (s : List Complex) (e : EvalError) : Type 0 where
+    before : List Instruction
+    after : List Instruction
+    node : Instruction
+    left_is : List Complex
+    parts : is ≡ before ++ (node ∷ after)
+    ran : run σ p before s ≡ Ok left_is
+    fails : step σ p node left_is ≡ Err e
+
+  stopped : (is : List Instruction) (s : List Complex) (e : EvalError) → run σ p is s ≡ Err e → Stopped is s e
+  unfolding run
+  stopped [] s e w = cc
+  stopped (i ∷ is) s e w = by (step σ p i s) refl w (λ t. stopped is t e)
+    where
+      by : (x : Outcome) → step σ p i s ≡ x → and_then x (λ t. run σ p is t) ≡ Err e → ((t : List Complex) → run σ p is t ≡ Err e → Stopped is t e) → Stopped (i ∷ is) s e
+      by (Err f) u v rest = record { before = []; after = is; node = i; left_is = s; parts = refl; ran = refl; fails = u ∙ v }
+      by (Ok t) u v rest =
+          let r = rest t v in
+          record { before = i ∷ r.before; after = r.after; node = r.node; left_is = r.left_is; parts = ap (λ (js : List Instruction). i ∷ js) r.parts; ran = ap (λ (y : Outcome). and_then y (λ t. run σ p r.before t)) u ∙ r.ran; fails = r.fails }
+
+  -- ---- who answers ExpOverflow: an Eml node of the tree, at its place in postorder
+  -- x is the left real part of such a node, beyond the clamp, and those before it have left their values
+  pub record AtNode (t : Tree) (x : Float) : Type 0 where
+    pub before : List Instruction
+    pub after : List Instruction
+    pub left : Complex
+    pub right : Complex
+    pub rest : List Complex
+    pub parts : postorder t ≡ before ++ (Eml ∷ after)
+    pub ran : run σ p before [] ≡ Ok (right ∷ left ∷ rest)
+    pub is : left.re ≡ x
+    pub over : beyond σ.clamp x ≡ true
 
   not_numeric : (z : Complex) (x : Float) → numeric z ≡ Err (ExpOverflow x) → ⊥
   unfolding numeric when◌then◌else◌
@@ -51,15 +82,20 @@ module _ (σ : Settings) (p : List Float) where
       by true w = cc
       by false w = cc
 
-  node_reported : (a b : Complex) (x : Float) → eml_complex σ a b ≡ Err (ExpOverflow x) → Reported x
+  record AtValues (a : Complex) (x : Float) : Type 0 where
+    on : σ.strict ≡ true
+    is : a.re ≡ x
+    over : beyond σ.clamp x ≡ true
+
+  at_values : (a b : Complex) (x : Float) → eml_complex σ a b ≡ Err (ExpOverflow x) → AtValues a x
   unfolding eml_complex when◌then◌else◌
-  node_reported a b x e = by σ.strict (beyond σ.clamp a.re) refl refl e
+  at_values a b x e = by σ.strict (beyond σ.clamp a.re) refl refl e
     where
       value : Complex
       value = difference (complex_exp (record { re = clamped σ.clamp a.re; im = a.im })) (complex_ln b)
 
-      by : (s k : Bool) → σ.strict ≡ s → beyond σ.clamp a.re ≡ k → when s && k then Err (ExpOverflow a.re) else numeric value ≡ Err (ExpOverflow x) → Reported x
-      by true true o h w = let is : a.re ≡ x = cc in (o, ap (beyond σ.clamp) (sym is) ∙ h)
+      by : (s k : Bool) → σ.strict ≡ s → beyond σ.clamp a.re ≡ k → when s && k then Err (ExpOverflow a.re) else numeric value ≡ Err (ExpOverflow x) → AtValues a x
+      by true true o h w = let is : a.re ≡ x = cc in record { on = o; is = is; over = ap (beyond σ.clamp) (sym is) ∙ h }
       by true false o h w = absurd (not_numeric value x w)
       by false k o h w = absurd (not_numeric value x w)
 
@@ -71,20 +107,24 @@ module _ (σ : Settings) (p : List Float) where
       by true w = cc
       by false w = cc
 
-  tree_reported : (t : Tree) (x : Float) → eval_complex σ p t ≡ Err (ExpOverflow x) → Reported x
-  unfolding eval_complex
-  tree_reported Tree.One x e = cc
-  tree_reported (Tree.Const v) x e = cc
-  tree_reported (Tree.Var i) x e = absurd (not_variable i x e)
-  tree_reported (Tree.Eml l r) x e = of_both (eval_complex σ p l) (eval_complex σ p r) refl refl e (tree_reported l x) (tree_reported r x)
-    where
-      of_both : (y z : Result Complex EvalError) → eval_complex σ p l ≡ y → eval_complex σ p r ≡ z → and_then y (λ a. and_then z (λ b. eml_complex σ a b)) ≡ Err (ExpOverflow x)
-          → (eval_complex σ p l ≡ Err (ExpOverflow x) → Reported x) → (eval_complex σ p r ≡ Err (ExpOverflow x) → Reported x) → Reported x
-      of_both (Err f) z u v w left right = let is : f ≡ ExpOverflow x = cc in left (u ∙ ap Err is)
-      of_both (Ok a) (Err f) u v w left right = let is : f ≡ ExpOverflow x = cc in right (v ∙ ap Err is)
-      of_both (Ok a) (Ok b) u v w left right = node_reported a b x w
+  unpushed : (y : Result Complex EvalError) (s : List Complex) (e : EvalError) → pushed y s ≡ Err e → y ≡ Err e
+  unpushed (Ok z) s e w = cc
+  unpushed (Err f) s e w = let is : f ≡ e = cc in ap Err is
 
-  pub value_reported : (t : Tree) (x : Float) → eval_real σ p t ≡ Err (ExpOverflow x) → Reported x
+  -- the node at which a run stopped with this error
+  at_step : (t : Tree) (before after : List Instruction) (i : Instruction) (s : List Complex) (x : Float)
+      → postorder t ≡ before ++ (i ∷ after) → run σ p before [] ≡ Ok s → step σ p i s ≡ Err (ExpOverflow x) → (σ.strict ≡ true) × AtNode t x
+  unfolding step
+  at_step t before after PushOne s x parts ran e = cc
+  at_step t before after (PushConst v) s x parts ran e = cc
+  at_step t before after (PushVar i) s x parts ran e = absurd (not_variable i x (unpushed (variable p i) s (ExpOverflow x) e))
+  at_step t before after Eml [] x parts ran e = cc
+  at_step t before after Eml (b ∷ []) x parts ran e = cc
+  at_step t before after Eml (b ∷ a ∷ s) x parts ran e =
+      let r = at_values a b x (unpushed (eml_complex σ a b) s (ExpOverflow x) e) in
+      (r.on, record { before = before; after = after; left = a; right = b; rest = s; parts = parts; ran = ran; is = r.is; over = r.over })
+
+  pub value_reported : (t : Tree) (x : Float) → eval_real σ p t ≡ Err (ExpOverflow x) → (σ.strict ≡ true) × AtNode t x
   unfolding eval_real real_part when◌then◌else◌
   value_reported t x e = of_value (eval_complex σ p t) refl e
     where
@@ -96,9 +136,12 @@ module _ (σ : Settings) (p : List Float) where
           by true false u = cc
           by false n u = cc
 
-      of_value : (y : Result Complex EvalError) → eval_complex σ p t ≡ y → and_then y real_part ≡ Err (ExpOverflow x) → Reported x
+      of_value : (y : Result Complex EvalError) → eval_complex σ p t ≡ y → and_then y real_part ≡ Err (ExpOverflow x) → (σ.strict ≡ true) × AtNode t x
       of_value (Ok z) u w = absurd (of_part z w)
-      of_value (Err f) u w = let is : f ≡ ExpOverflow x = cc in tree_reported t x (u ∙ ap Err is)
+      of_value (Err f) u w =
+          let is : f ≡ ExpOverflow x = cc in
+          let r = stopped (postorder t) [] (ExpOverflow x) (run_means σ p t [] ∙ ap (λ (y : Result Complex EvalError). pushed y []) (u ∙ ap Err is)) in
+          at_step t r.before r.after r.node r.left_is x r.parts r.ran r.fails
 
 -- ---- the flag set and the flag off, with the same clamp
 -- an evaluation that answers ExpOverflow

@@ -1,24 +1,17 @@
--- What narrowing, decisions and halving read of the record of settings. Narrowing reads the rounds and the slack, and neither the clamp nor the strict
--- flag; decisions and halving read the others by the check and the residual alone. Laws for `Strict`. Assumes nothing.
-use Rattle.std.specs.Prelude.{◌≡◌, refl, ℕ, zero, suc, Bool, true, false, not, List, [], ◌∷◌, get_or, set, Float, Option, Some, None, Ok, Err}
-use Rattle.std.specs.List.{find}
+-- What narrowing reads of the record of settings: the rounds and the slack, and neither the equality tolerance nor the clamp nor the strict flag. Laws for
+-- `Strict`. Assumes nothing.
+use Rattle.std.specs.Prelude.{◌≡◌, refl, ℕ, zero, suc, List, [], ◌∷◌, Option, Some, None, Ok, Err}
 use Rattle.std.proofs.Common.{ap, ◌∙◌}
 use Rattle.settings.specs.declared.Settings.{Settings}
 use Rattle.interval.specs.declared.Interval.{Interval}
-use Rattle.interval.specs.Interval.{◌‥◌, split}
-use Rattle.interval.specs.Boxes.{missing, midpoints, all_below, starting, widest}
 use Rattle.record.specs.Leaving.{◌leaving◌}
 use Rattle.tree.specs.Tree.{Tree}
 use Rattle.constraint.specs.declared.Relation.{Relation}
 use Rattle.constraint.specs.declared.Relation.TheVariants.{EqZero, GtZero, GeZero, LtZero, LeZero, NeZero}
-use Rattle.constraint.specs.Constraint.{Constraint, Constraints, Atom, Not, And, Or, ForAll, Exists, end, ◌⨾◌, num_vars}
+use Rattle.constraint.specs.Constraint.{Constraint, Constraints, Atom, Not, And, Or, ForAll, Exists, end, ◌⨾◌}
 use Rattle.normal.specs.NormalForm.{to_nnf}
 use Rattle.narrow.specs.declared.PropResult.TheVariants.{Stable}
-use Rattle.narrow.specs.Narrowing.{Narrowed, Demand, is_conflict, eval_interval, demand, ask_both, narrow_var, backward, fails, target_of, aim, narrow_to, narrow_atom, continue, survive, tightened, adopt, adopt_survivors, round, round_all, survivors, propagate_once, again, rounds, propagate}
-use Rattle.point.specs.Check.{check}
-use Rattle.point.specs.Residual.{residual}
-use Rattle.decide.specs.Deciding.{point_at, forall_samples, exists_samples, boxes_at, refutes, decide_forall, decide_exists}
-use Rattle.nra.specs.Solver.{Problem, distance, begin_narrowed, begin_in, begin_at, begin, halved, settle_checked, settle_narrowed, settle_in, halve, Progress, Stopped, Going, State, steps, finish, run, solve}
+use Rattle.narrow.specs.Narrowing.{Narrowed, Demand, eval_interval, demand, ask_both, narrow_var, backward, fails, target_of, aim, narrow_to, narrow_atom, continue, survive, tightened, adopt, adopt_survivors, round, round_all, survivors, propagate_once, again, rounds, propagate}
 
 -- what a step does to boxes
 abbrev Step : Type 0
@@ -111,85 +104,3 @@ module _ (σ τ : Settings) (slack : σ.slack ≡ τ.slack) where
     pub propagate_same : (c : Constraint) (b : List Interval) → propagate σ c b ≡ propagate τ c b
     unfolding propagate
     propagate_same c b = ap (λ (n : ℕ). rounds σ n c b) same_rounds ∙ rounds_same τ.rounds c b
-
-    -- ---- decisions, where the check is the same at every point
-    module _ (c : Constraint) (checks : (p : List Float) → check σ p c ≡ check τ p c) where
-      find_same : (f g : Float → Bool) (xs : List Float) → ((x : Float) → f x ≡ g x) → find f xs ≡ find g xs
-      find_same f g [] h = refl
-      find_same f g (x ∷ xs) h = rw (h x, find_same f g xs h) refl
-
-      pub forall_same : (v : ℕ) (lo hi : Float) (n : ℕ) → decide_forall σ v lo hi c n ≡ decide_forall τ v lo hi c n
-      unfolding decide_forall refutes
-      forall_same v lo hi n =
-          rw (propagate_same (to_nnf (Not c)) (boxes_at n v (lo ‥ hi)), find_same (λ x. not (check σ (point_at n v x) c)) (λ x. not (check τ (point_at n v x) c)) (forall_samples lo hi) (λ x. ap not (checks (point_at n v x)))) refl
-
-      pub exists_same : (v : ℕ) (lo hi : Float) (n : ℕ) → decide_exists σ v lo hi c n ≡ decide_exists τ v lo hi c n
-      unfolding decide_exists
-      exists_same v lo hi n = rw (find_same (λ x. check σ (point_at n v x) c) (λ x. check τ (point_at n v x) c) (exists_samples lo hi) (λ x. checks (point_at n v x))) refl
-
-    -- ---- halving, where the check and the residual are the same at every point
-    module _ (p : Problem) (checks : (m : List Float) → check σ m p.constraint ≡ check τ m p.constraint) (residuals : (m : List Float) → residual σ m p.constraint ≡ residual τ m p.constraint) where
-      distance_same : (b : List Interval) → distance σ p.constraint b ≡ distance τ p.constraint b
-      unfolding distance
-      distance_same b = rw (residuals (midpoints b)) refl
-
-      halved_same : (b : List Interval) → halved σ p.constraint b ≡ halved τ p.constraint b
-      unfolding halved
-      halved_same b =
-          let w = widest b in
-          let halves = split (get_or b w missing) in
-          rw (distance_same (set b w halves.lower), distance_same (set b w halves.upper)) refl
-
-      checked_same : (h : ℕ) (b : List Interval) (k n : Bool) → settle_checked σ p h b k n ≡ settle_checked τ p h b k n
-      unfolding settle_checked
-      checked_same h b true n = refl
-      checked_same h b false true = rw (distance_same b) refl
-      checked_same h b false false = refl
-
-      settled_same : (h : ℕ) (k : Bool) (b : List Interval) → settle_narrowed σ p h k b ≡ settle_narrowed τ p h k b
-      unfolding settle_narrowed
-      settled_same h true b = refl
-      settled_same h false b = rw (checks (midpoints b)) (checked_same h b (check τ (midpoints b) p.constraint) (all_below p.tolerance b))
-
-      halve_same : (s : State) → halve σ p s ≡ halve τ p s
-      unfolding halve settle_in
-      halve_same s =
-          let b = halved τ p.constraint s.boxes in
-          let r = propagate τ p.constraint b in
-          rw (halved_same s.boxes, propagate_same p.constraint b) (settled_same (suc s.halvings) (is_conflict r.answer) r.places)
-
-      begun_same : (k : Bool) (b : List Interval) → begin_narrowed σ p k b ≡ begin_narrowed τ p k b
-      unfolding begin_narrowed
-      begun_same true b = refl
-      begun_same false b = rw (checks (midpoints b)) refl
-
-      begin_same : (bounds : List Interval) → begin σ p bounds ≡ begin τ p bounds
-      unfolding begin begin_at begin_in
-      begin_same bounds = at_same (num_vars p.constraint)
-        where
-          at_same : (n : ℕ) → begin_at σ p bounds n ≡ begin_at τ p bounds n
-          at_same zero = rw (checks []) refl
-          at_same (suc n) =
-              let b = starting (suc n) bounds in
-              let r = propagate τ p.constraint b in
-              rw (propagate_same p.constraint b) (begun_same (is_conflict r.answer) r.places)
-
-      steps_same : (n : ℕ) (g : Progress) → steps σ p n g ≡ steps τ p n g
-      unfolding steps
-      steps_same zero g = refl
-      steps_same (suc n) (Stopped a) = refl
-      steps_same (suc n) (Going s) = rw (halve_same s) (steps_same n (halve τ p s))
-
-      finish_same : (g : Progress) → finish σ p g ≡ finish τ p g
-      unfolding finish
-      finish_same (Stopped a) = refl
-      finish_same (Going s) = rw (distance_same s.boxes) refl
-
-      run_same : (n : ℕ) (g : Progress) → run σ p n g ≡ run τ p n g
-      unfolding run
-      run_same n g = rw (steps_same n g) (finish_same (steps τ p n g))
-
-      pub solve_same : (bounds : List Interval) (L : ℕ) → solve σ p bounds L ≡ solve τ p bounds L
-      unfolding solve
-      solve_same bounds zero = rw (begin_same bounds, run_same 0 (begin τ p bounds)) refl
-      solve_same bounds (suc n) = rw (begin_same bounds) (run_same (suc n) (begin τ p bounds))

@@ -66,7 +66,7 @@ pub record Steps (σ : Settings) (n : ℕ) (equality slack clamp : Float) : Type
       narrow_var σ i out b ≡ (when is_empty new then Conflict leaving b else when moves slack old new then Changed leaving set b i new else Stable leaving b)
   pub moved_by_or : (h old : Interval) → let new = intersect h old in
       tightened σ h old ≡ (when not (is_empty new) && moves slack old new then Changed leaving new else Stable leaving old)
-  -- "Exp's real argument is clamped to ±709.", unless evaluation is strict
+  -- "Exp's real argument is clamped to ±709.", where evaluation is not strict, as it is not under `usual`
   pub clamps : σ.strict ≡ false → (l r : Complex) → eml_complex σ l r ≡ numeric (difference (complex_exp (record { re = clamped clamp l.re; im = l.im })) (complex_ln r))
 
 -- "Rounds are 1 to 100, 0 < slack < equality tolerance, both finite, and the clamp is 1 to 709."
@@ -210,7 +210,8 @@ module _ (σ : Settings) (out : in_range σ ≡ false) where
   unfolding eval_answer eval_refusal
   eval_14 nodes k e p = rw (e, refused) refl
 
--- And a record inside the ranges, as 01's numbers are, alters no refusal: the calls are 01's with the record's numbers. With `usual` they are document 01's.
+-- And a record inside the ranges, as 01's numbers are, alters no refusal: the calls are 01's with the record's numbers and, where it is strict, with strict
+-- evaluation. With `usual` they are document 01's.
 module _ (σ : Settings) (accepted : in_range σ ≡ true) where
   taken : settings_refusal σ ≡ 0
   unfolding settings_refusal

@@ -2,7 +2,7 @@
 -- Assumes nothing.
 use Rattle.std.specs.Prelude.{◌≡◌, refl, Bool, true, false, not, ◌&&◌, ◌||◌, ◌⊎◌, List, Float, Result, Ok, Err}
 use Rattle.std.proofs.Common.{sym, ap, ◌∙◌, inl, inr, ⊎_elim}
-use Rattle.std.proofs.lemmas.Bool.{not-true}
+use Rattle.std.proofs.lemmas.Bool.{or_parts, not-true}
 use Rattle.std.specs.Float.Ieee.{neg}
 use Rattle.number.specs.Notation.{when◌then◌else◌, ◌≺◌, whole}
 use Rattle.maths.specs.declared.Complex.{Complex}
@@ -87,12 +87,7 @@ abbrev mutual
 -- ---- where no node is beyond the clamp, evaluation is that with no clamp at all, strict or not
 clamped_within : (most x : Float) → beyond most x ≡ false → clamped most x ≡ x
 unfolding beyond clamped when◌then◌else◌
-clamped_within most x e = by (most ≺ x) (x ≺ neg most) e
-  where
-    by : (a b : Bool) → (a || b) ≡ false → when a then most else when b then neg most else x ≡ x
-    by true b e = cc
-    by false true e = cc
-    by false false e = refl
+clamped_within most x e = let w = or_parts (most ≺ x) (x ≺ neg most) e in rw (w.0, w.1) refl
 
 module _ (σ : Settings) where
   node_within : (a b : Complex) → beyond σ.clamp a.re ≡ false → eml_complex σ a b ≡ eml_unclamped a b
@@ -187,7 +182,7 @@ module _ (σ : Settings) where
             by true h o first others = inl (first h)
             by false h o first others = inr (others o)
 
-    -- ---- and what is met so passes the check, strict or not
+    -- ---- and what is met so passes the check, under any record
     mutual
       unfolding check
 
