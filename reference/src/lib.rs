@@ -5,9 +5,10 @@
 //! them). `standins` are these stand-ins, and `settings` is this record. `counted` is `solve` with its stop word and count of
 //! halvings. `house` reads the house file, `generate` makes problems and damage, `replay` makes the cases of the program
 //! `table`, `printed` the printing program's lines, and `port` adds to the bindings of the proved code what the comparison
-//! looks at beside the answers.
+//! looks at beside the answers. `case` asks both sides each call that receives the record.
 
 pub mod canonical;
+pub mod case;
 pub mod compare;
 pub mod counted;
 pub mod error;

@@ -1,21 +1,12 @@
 //! `decide_forall` and `decide_exists` against the Rust's: the verdict and every bit of its point.
 
+use reference::case::{Decision, EXISTS, FORALL, UNTOUCHED, taken_apart};
 use reference::compare::{Tally, hex, say};
 use reference::generate::{self, Shape, Temper};
 use reference::house::{self, Node, Record, kind};
-use reference::port;
 use reference::settings::Settings;
 use reference::smt::constraint::EmlConstraint;
-use reference::smt::helpers::{self, QuantResult};
 use reference::splitmix::SplitMix64;
-
-type Rust = fn(usize, f64, f64, &EmlConstraint, usize, &Settings) -> QuantResult;
-
-const FORALL: (Rust, port::Decide) = (helpers::decide_forall, port::decide_forall);
-const EXISTS: (Rust, port::Decide) = (helpers::decide_exists, port::decide_exists);
-
-/// What a lent place holds before a call.
-const UNTOUCHED: f64 = -7.25;
 
 fn shape(rng: &mut SplitMix64) -> Shape {
     match rng.below(400) {
@@ -23,16 +14,6 @@ fn shape(rng: &mut SplitMix64) -> Shape {
         1..=20 => Shape::medium(rng),
         21..=200 => Shape::narrowing(rng),
         _ => Shape::small(rng),
-    }
-}
-
-/// The number of the verdict, as the library has it, and the values of its point.
-fn taken_apart(result: &QuantResult) -> (usize, &[f64]) {
-    match result {
-        QuantResult::True => (0, &[]),
-        QuantResult::TrueWithWitness(point) => (1, point),
-        QuantResult::FalseWithCounterexample { counterexample } => (2, counterexample),
-        QuantResult::Unknown => (3, &[]),
     }
 }
 
@@ -48,7 +29,7 @@ fn samples(exists: bool, (lo, hi): (f64, f64)) -> [f64; 5] {
 
 /// Compares one call; the places past the point stay. The verdict's number and the point.
 fn compared(
-    (rust, port): (Rust, port::Decide),
+    (rust, port): Decision,
     (nodes, constraints): (&[u8], &[u8]),
     constraint: &EmlConstraint,
     var: usize,

@@ -4,21 +4,18 @@
 //! Of each input the Rust is asked too what it answers under document 01's numbers, and with one number of the record put back to document 01's.
 //! Where that is another answer, a port that took no notice of the record, or of that number, would differ.
 
-use eml::{Interval, Stop};
+use eml::Stop;
+use reference::case::{Case, EXISTS, FORALL, TOLERANCES, UNTOUCHED, listed};
 use reference::compare::{Tally, hex, say, text};
-use reference::counted;
-use reference::eval::EvalCtx;
 use reference::generate::{self, Shape, Temper};
-use reference::house::{self, Bodies, Parts, Problem};
-use reference::port::{self, Evaluated, bits};
+use reference::house;
+use reference::port::{self, bits};
 use reference::settings::Settings;
-use reference::smt::helpers::{self, count_constraint_vars};
-use reference::smt::interval::{self, IntervalDomain, PropResult};
+use reference::smt::helpers::count_constraint_vars;
+use reference::smt::interval::{IntervalDomain, PropResult};
 use reference::splitmix::SplitMix64;
 use reference::standins::{next_down, next_up};
-
-/// What a lent place holds before a call.
-const UNTOUCHED: f64 = -7.25;
+use std::fmt::Debug;
 
 /// How many answers tell the settings: they are others under document 01's numbers, and with one number put back.
 #[derive(Default)]
@@ -31,7 +28,8 @@ struct Told {
 
 impl Told {
     /// `ask` is what the Rust answers under a record, and `theirs` what it answered under these settings.
-    fn add(&mut self, settings: &Settings, theirs: &str, ask: impl Fn(&Settings) -> String) {
+    fn add<T: Debug>(&mut self, settings: &Settings, theirs: &T, ask: impl Fn(&Settings) -> T) {
+        let other = |settings: &Settings| u64::from(text(&ask(settings)) != text(theirs));
         let usual = Settings::default();
         let one_put_back = [
             Settings {
@@ -52,9 +50,9 @@ impl Told {
             },
         ];
         self.answers += 1;
-        self.usual += u64::from(ask(&usual) != theirs);
-        for (count, other) in self.by.iter_mut().zip(&one_put_back) {
-            *count += u64::from(ask(other) != theirs);
+        self.usual += other(&usual);
+        for (count, settings) in self.by.iter_mut().zip(&one_put_back) {
+            *count += other(settings);
         }
     }
 
@@ -71,16 +69,6 @@ impl Told {
     }
 }
 
-/// A problem in every form that a call is given it in.
-struct Case {
-    /// At most so many, and what other ranges are like.
-    variables: usize,
-    temper: Temper,
-    parts: Parts,
-    bodies: Bodies,
-    problem: Problem,
-}
-
 /// Mostly a small problem, so that many are compared, and one in ten such that the number of rounds matters.
 fn case(rng: &mut SplitMix64) -> Case {
     let shape = match rng.below(100) {
@@ -88,23 +76,12 @@ fn case(rng: &mut SplitMix64) -> Case {
         1..=60 => Shape::narrowing(rng),
         _ => Shape::small(rng),
     };
-    let (variables, parts) = if rng.one_in(10) {
-        (1, generate::slow_problem(rng))
+    if rng.one_in(10) {
+        Case::new(generate::slow_problem(rng), 1, shape.temper)
     } else {
-        (shape.variables, generate::problem(rng, &shape))
-    };
-    let bodies = parts.to_bodies();
-    let problem = house::read_file(&bodies.to_file()).expect("sound");
-    Case {
-        variables,
-        temper: shape.temper,
-        parts,
-        bodies,
-        problem,
+        Case::drawn(rng, &shape)
     }
 }
-
-const TOLERANCES: [f64; 5] = [1e-8, 1e-8, 0.0, 0.1, f64::INFINITY];
 
 #[test]
 fn solving() {
@@ -115,32 +92,15 @@ fn solving() {
         let settings = generate::settings(&mut rng);
         let limit = rng.pick(&[0, 1, 2, 5, 40]);
         let tolerance = rng.pick(&TOLERANCES);
-        let Problem {
-            constraint, bounds, ..
-        } = &c.problem;
-        let solve = |settings: &Settings| {
-            text(&counted::solve(
-                constraint, bounds, limit, tolerance, settings,
-            ))
-        };
-        let theirs = solve(&settings);
-        let ours = port::solve_both(&c.bodies, bounds, limit, tolerance, &settings);
-        for ours in &ours {
-            let call = format!("{:?} {limit} {tolerance} {settings:?}", c.parts);
-            assert_eq!(text(ours), theirs, "{call}");
-        }
-        stops[ours[0].stop as usize] += 1;
-        told.add(&settings, &theirs, solve);
+        let theirs = c.compare_solve(limit, tolerance, &settings);
+        stops[theirs.stop as usize] += 1;
+        told.add(&settings, &theirs, |s| c.solve(limit, tolerance, s));
     }
     say(&format!(
         "solve under other settings: assignment, conflict, tolerance, limit, unsatisfied {stops:?}"
     ));
     assert!(stops.iter().all(|&n| n >= 1_000));
     told.done("solve", [1_000; 4]);
-}
-
-fn listed(boxes: &[(f64, f64)]) -> Vec<Interval> {
-    boxes.iter().map(|&ends| ends.into()).collect()
 }
 
 #[test]
@@ -151,50 +111,11 @@ fn narrowing() {
         let c = case(&mut rng);
         let settings = generate::settings(&mut rng);
         let boxes = generate::boxes_about(&mut rng, &c.parts.bounds, c.temper);
-        let propagate = |settings: &Settings| {
-            let vars = boxes
-                .iter()
-                .map(|&(lo, hi)| interval::Interval::new(lo, hi));
-            let mut domain = IntervalDomain {
-                vars: vars.collect(),
-            };
-            let answer = domain.propagate(&c.problem.constraint, settings);
-            let vars = domain.vars.iter().map(|v| (v.lo, v.hi));
-            (answer, bits(&listed(&vars.collect::<Vec<_>>())))
-        };
-        let theirs = propagate(&settings);
-        let Bodies {
-            nodes, constraints, ..
-        } = &c.bodies;
-        let call = || format!("{:?} {boxes:?} {settings:?}", c.parts);
-
-        let mut list = listed(&boxes);
-        let answer = port::propagate_intervals(nodes, constraints, &settings, &mut list);
-        assert_eq!(
-            (answer, bits(&list)),
-            (Ok(theirs.0), theirs.1.clone()),
-            "{}",
-            call()
-        );
-
-        let (mut lo, mut hi) = port::ends(&boxes);
-        let before = (lo.clone(), hi.clone());
-        let answer = port::propagate(nodes, constraints, &settings, &mut lo, &mut hi);
-        let after: Vec<_> = lo.iter().copied().zip(hi.iter().copied()).collect();
-        assert_eq!(
-            (answer, bits(&listed(&after))),
-            (Ok(theirs.0), theirs.1.clone()),
-            "{}",
-            call()
-        );
-        for i in 0..lo.len() {
-            // No lo lowered, no hi raised, no interval emptied.
-            assert!(before.0[i] <= lo[i] && lo[i] <= hi[i] && hi[i] <= before.1[i]);
-        }
+        let theirs = c.compare_propagate(&boxes, &settings);
         answers[theirs.0 as usize] += 1;
-        let moved = before != (lo, hi);
+        let moved = theirs.1 != bits(&listed(&boxes));
         written += u64::from(theirs.0 == PropResult::Conflict && moved);
-        told.add(&settings, &text(&theirs), |s| text(&propagate(s)));
+        told.add(&settings, &theirs, |s| c.propagate(&boxes, s));
     }
     let [changed, stable, conflict] = answers;
     say(&format!(
@@ -213,44 +134,18 @@ fn points() {
         let c = case(&mut rng);
         let settings = generate::settings(&mut rng);
         let point = generate::point_about(&mut rng, c.variables);
-        let Bodies {
-            nodes, constraints, ..
-        } = &c.bodies;
-        let call = || format!("{:?} {point:?} {settings:?}", c.parts);
-        let trees = &c.problem.trees;
 
-        if !trees.is_empty() {
-            // The later nodes are the larger trees.
-            let k = trees.len() - 1 - rng.below(trees.len().min(8));
-            let eval_real = |settings: &Settings| {
-                let answer = trees[k].eval_real(&EvalCtx::new(&point, settings));
-                text(&Evaluated::from(answer))
-            };
-            let theirs = eval_real(&settings);
-            let ours = port::eval_real(nodes, k, &point, &settings).expect("accepted");
-            assert_eq!(text(&ours), theirs, "{k} of {}", call());
-            evaluated.add(&settings, &theirs, eval_real);
+        if let Some(k) = c.any_node(&mut rng) {
+            let theirs = c.compare_eval_real(k, &point, &settings);
+            evaluated.add(&settings, &theirs, |s| c.eval_real(k, &point, s));
         }
 
-        let constraint = &c.problem.constraint;
-        let check = |settings: &Settings| {
-            helpers::check_constraint(constraint, &EvalCtx::new(&point, settings))
-        };
-        let theirs = check(&settings);
-        let ours = port::check(nodes, constraints, &point, &settings);
-        assert_eq!(ours, Ok(theirs), "{}", call());
+        let theirs = c.compare_check(&point, &settings);
         passed += u64::from(theirs);
-        checked.add(&settings, &text(&theirs), |s| text(&check(s)));
+        checked.add(&settings, &theirs, |s| c.check(&point, s));
 
-        let residual = |settings: &Settings| {
-            text(&helpers::evaluate_constraint_residual(
-                constraint, &point, settings,
-            ))
-        };
-        let theirs = residual(&settings);
-        let ours = port::residual(nodes, constraints, &point, &settings).expect("accepted");
-        assert_eq!(text(&ours), theirs, "{}", call());
-        measured.add(&settings, &theirs, residual);
+        let theirs = c.compare_residual(&point, &settings);
+        measured.add(&settings, &theirs, |s| c.residual(&point, s));
     }
     let failed = checked.answers - passed;
     say(&format!(
@@ -269,28 +164,11 @@ fn decisions() {
     for _ in 0..50_000 {
         let c = case(&mut rng);
         let settings = generate::settings(&mut rng);
-        let n = generate::num_vars_about(&mut rng, c.variables);
-        let var = generate::variable_about(&mut rng, n);
-        let (lo, hi) = generate::range_about(&mut rng, &c.parts.bounds, c.temper);
-        let body = &c.problem.constraint;
-        let Bodies {
-            nodes, constraints, ..
-        } = &c.bodies;
-        let call = || format!("{var} [{lo}, {hi}] of {n} {:?} {settings:?}", c.parts);
-        let mut point = vec![UNTOUCHED; n + 1];
-
-        let forall = |s: &Settings| text(&helpers::decide_forall(var, lo, hi, body, n, s));
-        let theirs = forall(&settings);
-        let ours = port::decide_forall(nodes, constraints, var, (lo, hi), n, &settings, &mut point);
-        assert_eq!(text(&ours.expect("accepted")), theirs, "{}", call());
-        all.add(&settings, &theirs, forall);
-
-        let exists = |s: &Settings| text(&helpers::decide_exists(var, lo, hi, body, n, s));
-        let theirs = exists(&settings);
-        let ours = port::decide_exists(nodes, constraints, var, (lo, hi), n, &settings, &mut point);
-        assert_eq!(text(&ours.expect("accepted")), theirs, "{}", call());
-        some.add(&settings, &theirs, exists);
-        assert_eq!(point[n], UNTOUCHED, "{}", call());
+        let question = c.question(&mut rng);
+        for (told, decision) in [(&mut all, FORALL), (&mut some, EXISTS)] {
+            let theirs = c.compare_decide(decision, &question, &settings);
+            told.add(&settings, &theirs, |s| c.decide(decision, &question, s));
+        }
     }
     all.done("decide_forall", [50; 4]);
     some.done("decide_exists", [0, 150, 150, 150]);
@@ -560,8 +438,7 @@ fn limits() {
         }
         for answer in [solve(0), last] {
             if answer.stop == Stop::Assignment {
-                let ctx = EvalCtx::new(&answer.point, &settings);
-                assert!(helpers::check_constraint(&c.problem.constraint, &ctx));
+                assert!(c.check(&answer.point, &settings));
                 let domain = IntervalDomain::new(&c.parts.bounds, answer.point.len());
                 let inside = domain.vars.iter().zip(&answer.point);
                 assert!(inside.into_iter().all(|(v, &x)| v.contains(x)));
