@@ -1,7 +1,7 @@
 // From the repository cool-japan/oxieml, commit fd90575a01, file src/eval.rs.
 // Apache License, Version 2.0; the licence is in NOTICE at the root of this repository.
-// This file was modified: evaluation by batches is left out, `Complex64` is ours, with document 01's exp and ln, and the clamp is
-// the settings'.
+// This file was modified: evaluation by batches is left out, `Complex64` is ours, with document 01's exp and ln, the clamp is the
+// settings', and a strict evaluation answers `ExpOverflow`.
 // REPLACED.md lists every change.
 
 //! Numerical evaluation of EML trees.
@@ -153,6 +153,11 @@ fn eml_complex(
     right: Complex64,
     settings: &Settings,
 ) -> Result<Complex64, EmlError> {
+    // Document 02 [9]. Both children have their values here, so an error in either came before.
+    if settings.strict && (left.re > settings.clamp || left.re < -settings.clamp) {
+        return Err(EmlError::ExpOverflow(left.re));
+    }
+
     // Clamp real part of left to prevent exp overflow
     let clamped_left = if left.re > settings.clamp {
         Complex64::new(settings.clamp, left.im)

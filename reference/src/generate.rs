@@ -8,7 +8,7 @@ use crate::house::{
 use crate::settings::Settings;
 use crate::smt::interval::Interval;
 use crate::splitmix::SplitMix64;
-use crate::standins::{next_down, next_up};
+use crate::standins::{self, next_down, next_up};
 
 /// What constants and ranges are like.
 #[derive(Clone, Copy, Debug, PartialEq)]
@@ -19,6 +19,8 @@ pub enum Temper {
     Ordinary,
     /// Any number that a file may hold.
     Wild,
+    /// Exponents about this clamp, so that a strict evaluation often fails.
+    Beyond(f64),
 }
 
 /// What a problem may be made of.
@@ -62,6 +64,18 @@ impl Shape {
             depth: 2 + rng.below(6),
             variables: 1 + rng.below(4),
             temper: Temper::Narrowing,
+            ..Self::small(rng)
+        }
+    }
+
+    /// Small, with exponents about a clamp.
+    pub fn beyond(rng: &mut SplitMix64, clamp: f64) -> Self {
+        Self {
+            nodes: 4 + rng.below(12),
+            size: 3 + rng.below(40),
+            depth: 2 + rng.below(6),
+            variables: 1 + rng.below(4),
+            temper: Temper::Beyond(clamp),
             ..Self::small(rng)
         }
     }
@@ -115,7 +129,9 @@ impl Shape {
 pub fn problem(rng: &mut SplitMix64, shape: &Shape) -> Parts {
     let count = match shape.temper {
         // A box for each variable, or one less or more.
-        Temper::Narrowing => rng.pick(&[0, 1, 1, 1, 1, 1, 1, 2]) + shape.variables - 1,
+        Temper::Narrowing | Temper::Beyond(_) => {
+            rng.pick(&[0, 1, 1, 1, 1, 1, 1, 2]) + shape.variables - 1
+        }
         _ => rng.below(shape.bounds + 1),
     };
     let count = count.min(MAX_BOUNDS);
@@ -154,6 +170,46 @@ pub fn slow_problem(rng: &mut SplitMix64) -> Parts {
     }
 }
 
+/// The documents' example of a stretch found only because exp was clamped, with other numbers: exp(v0) - ln(exp(v1)) compared with zero, by
+/// itself or beside exp(v0) compared with zero, in a box in which v1 is on both sides of the clamp.
+pub fn clamped_problem(rng: &mut SplitMix64, clamp: f64) -> Parts {
+    let relation = |rng: &mut SplitMix64| {
+        rng.pick(&[
+            kind::GT_ZERO,
+            kind::GT_ZERO,
+            kind::GE_ZERO,
+            kind::LT_ZERO,
+            kind::LE_ZERO,
+            kind::NE_ZERO,
+        ])
+    };
+    let mut constraints = vec![Record::new(relation(rng), 4)];
+    if rng.one_in(2) {
+        let at = rng.below(2);
+        constraints.insert(at, Record::new(relation(rng), 5));
+        constraints.push(Record::new(rng.pick(&[kind::AND, kind::OR, kind::OR]), 2));
+    }
+    let lo = standins::ln(clamp) + rng.uniform(-0.1, 0.05);
+    Parts {
+        nodes: vec![
+            Node::Var(0),
+            Node::Var(1),
+            Node::One,
+            Node::Eml(1, 2),
+            Node::Eml(0, 3),
+            Node::Eml(0, 2),
+        ],
+        constraints,
+        bounds: vec![
+            (lo, lo + rng.uniform(0.0, 0.2)),
+            (
+                clamp * rng.uniform(0.6, 0.95),
+                clamp * rng.uniform(1.1, 2.5),
+            ),
+        ],
+    }
+}
+
 /// The largest problem that the reader takes: every count, the size, the depth, the levels and the quantifiers at their
 /// limits. A size is odd, so that the largest one is 4095.
 pub fn largest() -> Parts {
@@ -188,8 +244,34 @@ pub fn largest() -> Parts {
     }
 }
 
+/// A number about a clamp, or of which exp, exp of exp, or ln is about it or its negative; else an ordinary number. There are 9 kinds.
+fn about_clamp(rng: &mut SplitMix64, clamp: f64, kind: usize) -> f64 {
+    let edge = clamp * rng.pick(&[1.0, 1.0, 2.0]);
+    let ln = standins::ln(clamp);
+    match kind {
+        0 | 1 => rng.pick(&[edge, next_up(edge), next_down(edge)]),
+        2 | 3 => clamp * rng.uniform(0.5, 2.0),
+        4 => ln + rng.uniform(-0.5, 0.7),
+        // Where the clamp is at most e, exp of exp of any number above zero is beyond it.
+        5 if ln > 1.0 => standins::ln(ln) + rng.uniform(-0.2, 0.3),
+        6 => standins::exp(clamp) * rng.uniform(0.9, 2.0),
+        7 => standins::exp(-clamp) * rng.uniform(0.5, 1.1),
+        _ => constant(rng, Temper::Ordinary),
+    }
+}
+
+/// Any such number, of either sign.
+fn exponent(rng: &mut SplitMix64, clamp: f64) -> f64 {
+    let kind = rng.below(9);
+    let x = about_clamp(rng, clamp, kind);
+    if rng.one_in(3) { -x } else { x }
+}
+
 /// A finite constant.
 fn constant(rng: &mut SplitMix64, temper: Temper) -> f64 {
+    if let Temper::Beyond(clamp) = temper {
+        return exponent(rng, clamp);
+    }
     if temper == Temper::Narrowing {
         return rng.uniform(0.1, 3.0);
     }
@@ -217,6 +299,11 @@ fn nodes(rng: &mut SplitMix64, shape: &Shape) -> Vec<Node> {
     // How a list grows: bushy, as a chain, by doubling, or by differences as `Canonical::sub` writes them.
     let habit = rng.below(4);
     let leaves = if habit == 1 { 20 } else { 2 + rng.below(4) };
+    if let Temper::Beyond(clamp) = shape.temper {
+        if clamp > 60.0 && shape.nodes >= 6 && rng.one_in(8) {
+            append_turned(rng, clamp, &mut list, &mut extents);
+        }
+    }
     while list.len() < shape.nodes {
         let count = list.len();
         let leaf = count == 0 || rng.one_in(leaves);
@@ -387,7 +474,31 @@ fn append_sub(
         Node::Eml(y as u32, at(0)),
         Node::Eml(at(4), at(5)),
     ];
-    for node in added {
+    append(&added, list, extents);
+}
+
+/// Six nodes at the start of a list. exp of exp(x) - pi i is beyond the clamp, far below zero, and its imaginary part is beyond 2^20, so that
+/// it has no sine: the last node's result is a NaN where exp is clamped.
+fn append_turned(
+    rng: &mut SplitMix64,
+    clamp: f64,
+    list: &mut Vec<Node>,
+    extents: &mut Vec<(usize, usize)>,
+) {
+    let x = standins::ln(rng.uniform(52.0, clamp));
+    let added = [
+        Node::Const(x),
+        Node::Const(-1.0),
+        Node::Eml(0, 1),
+        Node::One,
+        Node::Eml(2, 3),
+        Node::Eml(4, 3),
+    ];
+    append(&added, list, extents);
+}
+
+fn append(added: &[Node], list: &mut Vec<Node>, extents: &mut Vec<(usize, usize)>) {
+    for &node in added {
         let extent = match node {
             Node::Eml(left, right) => joined(extents[left as usize], extents[right as usize]),
             _ => (1, 1),
@@ -411,6 +522,10 @@ fn constraints(
                 .filter(|&k| crosses_zero(&spans[k]))
                 .collect()
         }
+        // Those that have an exp.
+        Temper::Beyond(_) => (0..nodes.len())
+            .filter(|&k| matches!(nodes[k], Node::Eml(..)))
+            .collect(),
         // The later nodes are the larger ones.
         _ => (nodes.len().saturating_sub(3)..nodes.len()).collect(),
     };
@@ -505,6 +620,24 @@ pub fn range(rng: &mut SplitMix64, temper: Temper) -> (f64, f64) {
         }
         Temper::Ordinary => rng.below(8),
         Temper::Wild => rng.below(16),
+        Temper::Beyond(clamp) => loop {
+            // Mostly between two of a kind, so that often some of the range is beyond the clamp and some is not.
+            let kind = rng.below(9);
+            let a = about_clamp(rng, clamp, kind);
+            let b = match rng.below(6) {
+                0 => a,
+                1 => exponent(rng, clamp),
+                _ => about_clamp(rng, clamp, kind),
+            };
+            let (lo, hi) = if rng.one_in(3) {
+                ordered(-a, -b)
+            } else {
+                ordered(a, b)
+            };
+            if is_sound(lo, hi) {
+                return (lo, hi);
+            }
+        },
     };
     match choice {
         0..=2 => ordered(rng.uniform(-10.0, 10.0), rng.uniform(-10.0, 10.0)),
@@ -635,14 +768,34 @@ pub fn point(rng: &mut SplitMix64, length: usize) -> Vec<f64> {
     (0..length).map(|_| value(rng)).collect()
 }
 
-/// A point that is often shorter or longer than the variables.
-pub fn point_about(rng: &mut SplitMix64, variables: usize) -> Vec<f64> {
-    let length = match rng.below(6) {
+/// Often fewer or more than the variables.
+fn length_about(rng: &mut SplitMix64, variables: usize) -> usize {
+    match rng.below(6) {
         0 => rng.below(17),
         1 => variables.saturating_sub(1),
         _ => variables,
-    };
+    }
+}
+
+/// A point that is often shorter or longer than the variables.
+pub fn point_about(rng: &mut SplitMix64, variables: usize) -> Vec<f64> {
+    let length = length_about(rng, variables);
     point(rng, length)
+}
+
+/// Such a point of exponents about a clamp, infinities and NaN too.
+pub fn exponents_about(rng: &mut SplitMix64, variables: usize, clamp: f64) -> Vec<f64> {
+    let length = if rng.one_in(2) {
+        rng.below(variables + 1)
+    } else {
+        length_about(rng, variables)
+    };
+    let value = |rng: &mut SplitMix64| match rng.below(8) {
+        0 => rng.pick(&[f64::INFINITY, f64::NEG_INFINITY]),
+        1 => nan(rng),
+        _ => exponent(rng, clamp),
+    };
+    (0..length).map(|_| value(rng)).collect()
 }
 
 /// For a decision: as many as the constraint has, or any number that is taken.
@@ -672,7 +825,7 @@ pub fn range_about(rng: &mut SplitMix64, bounds: &[(f64, f64)], temper: Temper) 
     }
 }
 
-/// A record of numbers that is taken: often such that it alters answers, and often at an edge.
+/// A record that is taken: its numbers are often such that they alter answers, and often at an edge; the flag is off.
 pub fn settings(rng: &mut SplitMix64) -> Settings {
     let least = f64::from_bits(1);
     let rounds = match rng.below(4) {
@@ -702,6 +855,7 @@ pub fn settings(rng: &mut SplitMix64) -> Settings {
         equality,
         slack,
         clamp,
+        strict: false,
     }
 }
 
@@ -739,9 +893,10 @@ fn put_outside(rng: &mut SplitMix64, made: &mut Settings, number: usize) {
     }
 }
 
-/// A record that is taken, one that is not, or numbers drawn one by one.
+/// A record that is taken, one that is not, or numbers drawn one by one; with either value of the flag.
 pub fn any_settings(rng: &mut SplitMix64) -> Settings {
-    match rng.below(4) {
+    let strict = rng.one_in(2);
+    let numbers = match rng.below(4) {
         0 => refused_settings(rng),
         1 => {
             let edges = [1e-12, 1e-8, 1.0, 709.0];
@@ -754,10 +909,12 @@ pub fn any_settings(rng: &mut SplitMix64) -> Settings {
                 equality: number(rng),
                 slack: number(rng),
                 clamp: number(rng),
+                strict: false,
             }
         }
         _ => settings(rng),
-    }
+    };
+    numbers.with_strict(strict)
 }
 
 /// Bodies of a file, sound or damaged in up to three places.
@@ -1252,7 +1409,12 @@ mod tests {
         let mut rng = SplitMix64::new(12);
         let mut points = 0;
         for _ in 0..100_000 {
-            for temper in [Temper::Narrowing, Temper::Ordinary, Temper::Wild] {
+            for temper in [
+                Temper::Narrowing,
+                Temper::Ordinary,
+                Temper::Wild,
+                Temper::Beyond(rng.uniform(1.0, 709.0)),
+            ] {
                 let (lo, hi) = range(&mut rng, temper);
                 assert!(is_sound(lo, hi), "{lo} {hi}");
                 points += usize::from(lo == hi);

@@ -86,6 +86,7 @@ pub enum Evaluated {
     VarOutOfBounds(usize, usize),
     NanEncountered,
     ComplexResult(f64),
+    ExpOverflow(f64),
 }
 
 impl From<Result<f64, EmlError>> for Evaluated {
@@ -95,7 +96,8 @@ impl From<Result<f64, EmlError>> for Evaluated {
             Err(EmlError::VarOutOfBounds(index, count)) => Self::VarOutOfBounds(index, count),
             Err(EmlError::NanEncountered) => Self::NanEncountered,
             Err(EmlError::ComplexResult(im)) => Self::ComplexResult(im),
-            Err(other) => panic!("{other:?} of an evaluation"),
+            Err(EmlError::ExpOverflow(re)) => Self::ExpOverflow(re),
+            Err(other @ EmlError::ConvergenceFailed { .. }) => panic!("{other:?} of an evaluation"),
         }
     }
 }
@@ -108,7 +110,9 @@ pub fn eval_real(
 ) -> Result<Evaluated, Refusal> {
     let untouched = EvalPlaces {
         kind: 255,
-        ..EvalPlaces::default()
+        value: f64::from_bits(UNTOUCHED),
+        index: usize::MAX,
+        count: usize::MAX,
     };
     let mut to = untouched;
     let settings = settings.to_port();
@@ -117,11 +121,15 @@ pub fn eval_real(
         assert_eq!(to, untouched);
         return Err(number);
     }
+    // A place that the answer has nothing for stays.
+    assert!([0, 3, 4].contains(&to.kind) || to.value == untouched.value);
+    assert!(to.kind == 1 || (to.index, to.count) == (untouched.index, untouched.count));
     Ok(match to.kind {
         0 => Evaluated::Value(to.value),
         1 => Evaluated::VarOutOfBounds(to.index, to.count),
         2 => Evaluated::NanEncountered,
         3 => Evaluated::ComplexResult(to.value),
+        4 => Evaluated::ExpOverflow(to.value),
         other => panic!("kind {other}"),
     })
 }

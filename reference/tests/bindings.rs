@@ -31,7 +31,8 @@ fn evaluation(answer: Result<Evaluation, eml::Refusal>) -> Result<Evaluated, u8>
         Evaluation::VarOutOfBounds { index, count } => Evaluated::VarOutOfBounds(index, count),
         Evaluation::NanEncountered => Evaluated::NanEncountered,
         Evaluation::ComplexResult(im) => Evaluated::ComplexResult(im),
-        other => panic!("{other:?}, though exp is clamped"),
+        Evaluation::ExpOverflow(re) => Evaluated::ExpOverflow(re),
+        other => panic!("{other:?}"),
     })
 }
 

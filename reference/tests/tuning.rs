@@ -334,7 +334,7 @@ fn refusals_of_records() {
     decisions.done(&[0, 2, 3, 4, 5, 6, 7, 9, 10, 14], 200);
 }
 
-/// Every edge of each number with every edge of the others, and random records.
+/// Every edge of each number with every edge of the others, and random records: the same number with either value of the flag.
 #[test]
 fn tests_of_settings() {
     let mut tally = Tally::new("eml_test_settings");
@@ -342,15 +342,19 @@ fn tests_of_settings() {
         let number = settings.refusal();
         let ours = port::test_settings(&settings);
         assert_eq!(ours.err().unwrap_or(0), number, "{settings:?}");
+        let other = settings.with_strict(!settings.strict);
+        assert_eq!(port::test_settings(&other).err().unwrap_or(0), number);
         let Settings {
             rounds,
             equality,
             slack,
             clamp,
+            ..
         } = settings;
         let made = eml::Settings::new(rounds, equality, slack, clamp);
+        let off = settings.with_strict(false).to_port();
         match made {
-            Ok(made) => assert_eq!((made, 0), (settings.to_port(), number)),
+            Ok(made) => assert_eq!((made, 0), (off, number)),
             Err(refusal) => assert_eq!(refusal.number(), number, "{settings:?}"),
         }
         tally.add(number);
@@ -378,6 +382,7 @@ fn tests_of_settings() {
                         equality,
                         slack,
                         clamp,
+                        strict: false,
                     });
                 }
             }
@@ -399,8 +404,8 @@ fn usual_settings() {
     assert_eq!(usual.refusal(), 0);
 }
 
-/// Under other settings too a limit alters no answer but "limit"; and an assignment passes the check under the same settings, inside the
-/// box that the call got.
+/// Under other settings too, with either value of the flag, a limit alters no answer but "limit"; and an assignment passes the check under the
+/// same settings, inside the box that the call got.
 #[test]
 fn limits() {
     const LIMITS: [usize; 9] = [1, 2, 3, 5, 8, 13, 30, 60, 400];
@@ -408,7 +413,8 @@ fn limits() {
     let (mut problems, mut cut, mut assigned, mut stops) = (0_u64, 0_u64, 0_u64, [0_u64; 5]);
     while problems < 2_000 {
         let c = case(&mut rng);
-        let settings = generate::settings(&mut rng);
+        let strict = rng.one_in(2);
+        let settings = generate::settings(&mut rng).with_strict(strict);
         let tolerance = rng.pick(&TOLERANCES);
         let file = c.bodies.to_file();
         let solve = |limit: usize| {
