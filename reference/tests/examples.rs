@@ -1,9 +1,12 @@
-//! Document 01's examples on the Rust itself, so that the judge is judged too.
+//! The documents' examples on the Rust itself, so that the judge is judged too.
 
+use eml::Stop;
 use reference::canonical::Canonical;
+use reference::compare::hex;
+use reference::counted;
 use reference::error::EmlError;
 use reference::eval::EvalCtx;
-use reference::house::{Node, Parts, Record, kind, read_file, read_nodes};
+use reference::house::{Node, Parts, Problem, Record, kind, read_file, read_nodes};
 use reference::settings::Settings;
 use reference::smt::constraint::{EmlConstraint, EmlSolution};
 use reference::smt::helpers::{
@@ -279,6 +282,57 @@ fn file_of_88_bytes() {
     let answer = solve(&problem.constraint, &problem.bounds, 10_000).unwrap();
     assert!(!answer.is_exact);
     assert_eq!(answer.assignments, [2.0]);
+}
+
+/// Document 02 [9]: a stretch found only because exp was clamped. exp(v0) - ln(exp(v1)) is above zero at v0 = 6.565 and v1 = 800, where exp(800)
+/// counts as exp(709). In strict mode that point is an error, and after one halving v1 is 700, at which no exp is clamped.
+#[test]
+fn a_clamped_stretch() {
+    let parts = Parts {
+        nodes: vec![
+            Node::Var(0),
+            Node::Var(1),
+            Node::One,
+            Node::Eml(1, 2),
+            Node::Eml(0, 3),
+        ],
+        constraints: vec![Record::new(kind::GT_ZERO, 4)],
+        bounds: vec![(6.5, 6.63), (600.0, 1000.0)],
+    };
+    let file = include_bytes!("../../examples/clamped.emlq");
+    assert_eq!(parts.to_file(), file);
+    let problem = read_file(file).unwrap();
+    let usual = Settings::default();
+    let strict = usual.with_strict(true);
+    let found = |settings: &Settings, halvings: usize, point: [f64; 2]| {
+        let Problem {
+            constraint, bounds, ..
+        } = &problem;
+        let answer = counted::solve(constraint, bounds, 10_000, 1e-8, settings);
+        assert_eq!(answer.stop, Stop::Assignment);
+        assert_eq!((answer.exact, answer.halvings), (false, halvings));
+        assert_eq!(hex(&answer.point), hex(&point));
+    };
+    let middle = (6.5 + 6.63) / 2.0;
+    let (clamped, good) = ([middle, 800.0], [middle, 700.0]);
+    found(&usual, 0, clamped);
+    found(&strict, 1, good);
+
+    // exp(v0) - v1, were no exp clamped; the second exp's argument is beyond the clamp at the first point only.
+    let value = |settings: &Settings, point: &[f64]| {
+        let ctx = EvalCtx::new(point, settings);
+        problem.trees[4].eval_real(&ctx)
+    };
+    let exp = standins::exp(middle);
+    assert!(exp - 709.0 > 0.0 && exp - 800.0 < 0.0);
+    assert_eq!(value(&usual, &clamped), value(&usual, &[middle, 709.0]));
+    assert_eq!(value(&strict, &clamped), Err(EmlError::ExpOverflow(800.0)));
+    assert!(!check_constraint(
+        &problem.constraint,
+        &EvalCtx::new(&clamped, &strict)
+    ));
+    assert_eq!(value(&strict, &good), value(&usual, &good));
+    assert!(value(&strict, &good).is_ok_and(|v| (9.8..9.9).contains(&v)));
 }
 
 /// The nodes that document 01 says are appended have the meaning of the Rust's trees.
