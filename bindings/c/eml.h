@@ -149,13 +149,15 @@ typedef struct eml_settings {
     /*
      * Whether evaluation is strict; document 01's is not. Either value is taken. Assign it, so that every value but 0 becomes
      * true: a byte other than 0 and 1 that is copied to its place is no bool, and the flag may then count as off. A strict
-     * evaluation clamps no exp: an Eml node whose left value has a real part above the clamp or below its
-     * negative, an infinite one too, makes it answer EML_EVAL_EXP_OVERFLOW. This is an error as any other: an atom does not
-     * pass the check where the evaluation of its node ends so, and its residual is +inf there, of EML_KIND_NE_ZERO 0.
+     * evaluation clamps no exp: an Eml node whose left value has a real part above the clamp or below its negative, an
+     * infinite one too, makes it answer EML_EVAL_EXP_OVERFLOW. This is an error as any other: an atom does not pass the check
+     * where the evaluation of its node ends so, and its residual is +inf there, of EML_KIND_NE_ZERO 0.
      *
-     * So an assignment of a constraint without EML_KIND_NOT, EML_KIND_FORALL and EML_KIND_EXISTS that is found with this set
-     * was met without clamping in the atoms that made it true. More is not promised: EML_KIND_NOT passes where what it takes
-     * fails by an error, and narrowing is as without this. It takes exp of intervals, which it neither clamps nor tests.
+     * So with this set an assignment's constraint, if it has no EML_KIND_NOT, EML_KIND_FORALL or EML_KIND_EXISTS, was met
+     * without clamping in the atoms that made it true. More is not promised: EML_KIND_NOT passes where what it takes fails by
+     * an error; where both middles fail by one, halving keeps the upper half, even where only the lower one has points that
+     * can be evaluated, so the bounds should keep the arguments of exp within the clamp; and narrowing is as without this: it
+     * takes exp of intervals, which it neither clamps nor tests.
      */
     bool strict;
 } eml_settings;

@@ -3,7 +3,7 @@
 //! `solve` and so on are what the Rust answers. `compare_solve` and so on ask the port too, in every form of the call, and end the test
 //! where its answer differs in a bit, or where a place is not as the call should leave it.
 
-use crate::compare::text;
+use crate::compare::{say, text};
 use crate::counted::{self, Answer};
 use crate::eval::EvalCtx;
 use crate::generate::{self, Shape, Temper};
@@ -14,13 +14,46 @@ use crate::smt::constraint::EmlConstraint;
 use crate::smt::helpers::{self, QuantResult};
 use crate::smt::interval::{self, IntervalDomain, PropResult};
 use crate::splitmix::SplitMix64;
-use eml::Interval;
+use eml::{Interval, Stop};
 
 /// What a lent place holds before a call.
 pub const UNTOUCHED: f64 = -7.25;
 
 /// Tolerances of a solver's call.
 pub const TOLERANCES: [f64; 5] = [1e-8, 1e-8, 0.0, 0.1, f64::INFINITY];
+
+/// Limits of a solver's call on the same problem.
+const LIMITS: [usize; 9] = [1, 2, 3, 5, 8, 13, 30, 60, MOST];
+
+/// The greatest of them.
+pub const MOST: usize = 400;
+
+/// What was seen under those limits.
+#[derive(Default)]
+pub struct Limited {
+    pub problems: u64,
+    /// By the stop word under the greatest limit.
+    pub stops: [u64; 5],
+    /// Answers "limit" below the halvings of another answer.
+    pub cut: u64,
+    /// Assignments that were checked.
+    pub assigned: u64,
+}
+
+impl Limited {
+    pub fn say(&self, what: &str) {
+        let Self {
+            problems,
+            stops,
+            cut,
+            assigned,
+        } = self;
+        say(&format!(
+            "limits {what}: {problems} problems under {} limits, all alike; assignment, conflict, tolerance, limit, unsatisfied {stops:?}; {cut} answers 'limit' below the halvings of another; {assigned} assignments checked",
+            LIMITS.len()
+        ));
+    }
+}
 
 /// A decision of the Rust.
 pub type Decide = fn(usize, f64, f64, &EmlConstraint, usize, &Settings) -> QuantResult;
@@ -95,6 +128,46 @@ impl Case {
             assert_eq!(text(&ours), text(&theirs), "{call}");
         }
         theirs
+    }
+
+    /// What the port answers, of the file.
+    pub fn port(&self, limit: usize, tolerance: f64, settings: &Settings) -> Answer {
+        let file = self.bodies.to_file();
+        port::solve_file(&file, limit, tolerance, settings, 16).expect("accepted")
+    }
+
+    /// What the port answers under the greatest limit, which it answers under each limit that is not below the halvings; under the others it
+    /// answers "limit". An assignment, under limit 0 too, passes the check under the same settings, inside the box that the call got.
+    pub fn compare_limits(
+        &self,
+        tolerance: f64,
+        settings: &Settings,
+        seen: &mut Limited,
+    ) -> Answer {
+        let last = self.port(MOST, tolerance, settings);
+        seen.problems += 1;
+        seen.stops[last.stop as usize] += 1;
+        for limit in LIMITS {
+            let answer = self.port(limit, tolerance, settings);
+            let call = || format!("{:?} {tolerance} {settings:?}: {answer:?}", self.parts);
+            if last.stop == Stop::Limit || limit < last.halvings {
+                let cut = (answer.stop, answer.halvings);
+                assert_eq!(cut, (Stop::Limit, limit), "{}", call());
+                seen.cut += u64::from(last.stop != Stop::Limit);
+            } else {
+                assert_eq!(text(&answer), text(&last), "{}", call());
+            }
+        }
+        for answer in [&self.port(0, tolerance, settings), &last] {
+            if answer.stop == Stop::Assignment {
+                assert!(self.check(&answer.point, settings));
+                let domain = IntervalDomain::new(&self.parts.bounds, answer.point.len());
+                let inside = domain.vars.iter().zip(&answer.point);
+                assert!(inside.into_iter().all(|(v, &x)| v.contains(x)));
+                seen.assigned += 1;
+            }
+        }
+        last
     }
 
     /// The answer and the bits of the boxes after it.

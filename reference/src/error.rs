@@ -1,6 +1,6 @@
 // From the repository cool-japan/oxieml, commit fd90575a01, file src/error.rs.
 // Apache License, Version 2.0; the licence is in NOTICE at the root of this repository.
-// This file was modified: only the cases that the taken functions answer are kept, and `ExpOverflow` is document 02's [9].
+// This file was modified: only the cases that the taken functions answer are kept, and `ExpOverflow`, which a strict evaluation answers.
 // REPLACED.md lists every change.
 
 //! Error types for the OxiEML crate.
@@ -12,13 +12,13 @@ pub enum EmlError {
     /// Contains the imaginary part magnitude.
     ComplexResult(f64),
 
+    /// Numerical overflow during exp computation.
+    /// Contains the argument that caused overflow.
+    ExpOverflow(f64),
+
     /// Variable index out of bounds.
     /// (requested_index, num_vars)
     VarOutOfBounds(usize, usize),
-
-    /// In a strict evaluation, the real part of an exp's argument is beyond the clamp.
-    /// Contains that real part.
-    ExpOverflow(f64),
 
     /// Symbolic regression failed to converge.
     ConvergenceFailed {

@@ -302,6 +302,8 @@ fn nodes(rng: &mut SplitMix64, shape: &Shape) -> Vec<Node> {
     if let Temper::Beyond(clamp) = shape.temper {
         if clamp > 60.0 && shape.nodes >= 6 && rng.one_in(8) {
             append_turned(rng, clamp, &mut list, &mut extents);
+        } else if shape.nodes >= 6 && rng.one_in(8) {
+            append_beside(rng, clamp, shape.variables, &mut list, &mut extents);
         }
     }
     while list.len() < shape.nodes {
@@ -493,6 +495,32 @@ fn append_turned(
         Node::One,
         Node::Eml(2, 3),
         Node::Eml(4, 3),
+    ];
+    append(&added, list, extents);
+}
+
+/// Six nodes at the start of a list. exp of a variable, which a point may lack or have a NaN for, and exp of an exponent, either of them first.
+fn append_beside(
+    rng: &mut SplitMix64,
+    clamp: f64,
+    variables: usize,
+    list: &mut Vec<Node>,
+    extents: &mut Vec<(usize, usize)>,
+) {
+    let var = Node::Var(rng.below(variables) as u32);
+    let exponent = Node::Const(exponent(rng, clamp));
+    let (first, second) = if rng.one_in(3) {
+        (exponent, var)
+    } else {
+        (var, exponent)
+    };
+    let added = [
+        first,
+        Node::One,
+        Node::Eml(0, 1),
+        second,
+        Node::Eml(3, 1),
+        Node::Eml(2, 4),
     ];
     append(&added, list, extents);
 }

@@ -1,4 +1,4 @@
-//! The documents' examples on the Rust itself, so that the judge is judged too.
+//! The documents' examples on the Rust itself (what is strict, on the reference), so that the judge is judged too.
 
 use eml::Stop;
 use reference::canonical::Canonical;

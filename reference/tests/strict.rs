@@ -1,20 +1,21 @@
-//! Request [9] of document 02: each call that receives the record, in strict mode and with the flag off on the same input, against the Rust
-//! with the same record, under document 01's numbers and under others; and what a strict assignment's constraint was met by.
+//! Request [9] of document 02: each call that receives the record, in strict mode and with the flag off on the same input, against the
+//! reference with the same record, under document 01's numbers and under others; and what a strict assignment's constraint was met by.
 //!
-//! Where the Rust's answer with the flag off is another one, the flag alone decides it: a port that took no notice of the flag would differ.
+//! Where the reference's answer with the flag off is another one, the flag alone decides it: a port that took no notice of the flag would
+//! differ.
 
 use eml::Stop;
-use reference::case::{Case, Decision, EXISTS, FORALL, TOLERANCES};
+use reference::case::{Case, Decision, EXISTS, FORALL, Limited, MOST, TOLERANCES, taken_apart};
 use reference::compare::{same, say, text};
 use reference::counted::Answer;
 use reference::eval::EvalCtx;
 use reference::generate::{self, Shape, Temper};
-use reference::house::Node;
+use reference::house::{Node, kind};
 use reference::port::Evaluated;
 use reference::settings::Settings;
 use reference::smt::constraint::EmlConstraint;
 use reference::smt::helpers::check_constraint;
-use reference::smt::interval::PropResult;
+use reference::smt::interval::{Interval, PropResult, eval_interval};
 use reference::splitmix::SplitMix64;
 use reference::standins::{Complex64, next_down, next_up};
 use reference::tree::{EmlNode, EmlTree};
@@ -107,10 +108,14 @@ enum Met {
     /// A result with a NaN, and whether the left real part is one, at a node that is not beyond the clamp.
     Nan(bool),
     Beyond(Beyond),
-    /// A left real part beyond the clamp, and an error in the right child.
+    /// A left real part beyond the clamp, no error before it, and then one in the right child.
     BeyondBesideAnError,
-    /// A left real part that is the clamp itself, or its negative.
-    AtTheClamp,
+    /// A left real part that is the clamp itself, or its negative, which is told.
+    AtTheClamp(bool),
+}
+
+fn is_error(met: &Met) -> bool {
+    matches!(met, Met::OutOfBounds(_) | Met::Nan(_) | Met::Beyond(_))
 }
 
 /// A recursive evaluation that goes on after an error: what depends on it has no value, and the rest of the tree is evaluated too.
@@ -143,17 +148,18 @@ impl Walk<'_> {
             EmlNode::Eml { left, right } => (left, right),
         };
         let left = self.child(Turn::Left, left);
+        let clean = !self.met.iter().any(is_error);
         let right = self.child(Turn::Right, right);
         let left = left?;
         let beyond = left.re.abs() > self.clamp;
         let Some(right) = right else {
-            if beyond {
+            if beyond && clean {
                 self.met.push(Met::BeyondBesideAnError);
             }
             return None;
         };
         if left.re.abs() == self.clamp {
-            self.met.push(Met::AtTheClamp);
+            self.met.push(Met::AtTheClamp(left.re < 0.0));
         }
         let clamped = left.re.clamp(-self.clamp, self.clamp);
         let result = Complex64::new(clamped, left.im).exp() - right.ln();
@@ -187,7 +193,7 @@ fn at_the_end(value: Complex64) -> Evaluated {
 }
 
 /// How many places `places` tells.
-const PLACES: usize = 22;
+const PLACES: usize = 25;
 
 /// Evaluates recursively, which must give the strict answer too, and tells where a left real part is beyond the clamp, and how.
 fn places(
@@ -205,8 +211,7 @@ fn places(
     };
     let value = walk.node(&tree.root);
     let met = walk.met;
-    let error = |met: &&Met| matches!(met, Met::OutOfBounds(_) | Met::Nan(_) | Met::Beyond(_));
-    let first = met.iter().find(error);
+    let first = met.iter().find(|met| is_error(met));
     let answer = match first {
         None => at_the_end(value.expect("no error")),
         Some(Met::OutOfBounds(i)) => Evaluated::VarOutOfBounds(*i, point.len()),
@@ -221,7 +226,7 @@ fn places(
         _ => false,
     };
     let any = |test: fn(&Met) -> bool| met.iter().any(test);
-    let beyond = any(|m| matches!(m, Met::Beyond(_) | Met::BeyondBesideAnError));
+    let beyond = met.iter().filter(|m| matches!(m, Met::Beyond(_))).count();
     let out_of_bounds = matches!(first, Some(Met::OutOfBounds(_)));
     let nan = matches!(first, Some(Met::Nan(_)));
     use Turn::{Left, Right};
@@ -236,8 +241,13 @@ fn places(
             "before a VarOutOfBounds",
             is(&|_| any(|m| matches!(m, Met::OutOfBounds(_)))),
         ),
-        ("after a VarOutOfBounds", out_of_bounds && beyond),
-        ("after a NaN", nan && beyond),
+        (
+            "before a NaN at a later node",
+            is(&|_| any(|m| matches!(m, Met::Nan(_)))),
+        ),
+        ("before another node beyond the clamp", is(&|_| beyond > 1)),
+        ("after a VarOutOfBounds", out_of_bounds && beyond > 0),
+        ("after a NaN", nan && beyond > 0),
         (
             "beside an error in its own right child",
             any(|m| matches!(m, Met::BeyondBesideAnError)),
@@ -266,8 +276,12 @@ fn places(
         ("twice the clamp", is(&|b| b.left.re == 2.0 * clamp)),
         ("twice its negative", is(&|b| b.left.re == -2.0 * clamp)),
         (
-            "the clamp or its negative itself, and none beyond",
-            any(|m| matches!(m, Met::AtTheClamp)) && !beyond,
+            "the clamp itself, and no error",
+            first.is_none() && any(|m| matches!(m, Met::AtTheClamp(false))),
+        ),
+        (
+            "its negative itself, and no error",
+            first.is_none() && any(|m| matches!(m, Met::AtTheClamp(true))),
         ),
         (
             "a left NaN, which is NanEncountered",
@@ -336,7 +350,11 @@ fn points() {
         }
         measured.ask(&settings, |s| c.compare_residual(&point, s));
     }
-    say(&format!("check: {passed:?} passed, strict and not"));
+    let failed = passed.map(|n| checked.inputs[0] + checked.inputs[1] - n);
+    say(&format!(
+        "check: {passed:?} passed, {failed:?} did not, strict and not"
+    ));
+    assert!(passed.iter().chain(&failed).all(|&n| n >= 10_000));
     checked.done("check", 1_000);
     measured.done("residual", 1_000);
 }
@@ -365,25 +383,48 @@ fn solving() {
     assert!(others.iter().all(|&n| n >= 100), "{others:?}");
 }
 
-/// Narrowing takes no notice of the flag.
+/// Whether narrowing takes exp of an end beyond the clamp, at a node of a tree.
+fn beyond_in(node: &EmlNode, vars: &[Interval], clamp: f64) -> bool {
+    let EmlNode::Eml { left, right } = node else {
+        return false;
+    };
+    let ends = eval_interval(left, vars).filter(|i| i.lo < -clamp || i.hi > clamp);
+    ends.is_some() || beyond_in(left, vars, clamp) || beyond_in(right, vars, clamp)
+}
+
+/// Narrowing takes no notice of the flag, also where its exp, of intervals, is of an end beyond the clamp.
 #[test]
 fn narrowing() {
     let mut rng = SplitMix64::new(304);
-    let (mut told, mut answers) = (Told::default(), [0_u64; 3]);
+    let (mut told, mut answers, mut beyond) = (Told::default(), [0_u64; 3], 0_u64);
     for _ in 0..20_000 {
         let settings = numbers(&mut rng);
         let c = case(&mut rng, &settings);
         let boxes = generate::boxes_about(&mut rng, &c.parts.bounds, c.temper);
         let [strict, _] = told.ask(&settings, |s| c.compare_propagate(&boxes, s));
         answers[strict.0 as usize] += 1;
+        let vars: Vec<_> = boxes
+            .iter()
+            .map(|&(lo, hi)| Interval::new(lo, hi))
+            .collect();
+        let atoms = c
+            .parts
+            .constraints
+            .iter()
+            .filter(|r| r.kind <= kind::NE_ZERO);
+        let mut trees = atoms.map(|r| &c.problem.trees[r.argument as usize]);
+        beyond += u64::from(trees.any(|t| beyond_in(&t.root, &vars, settings.clamp)));
     }
     let named = [
         PropResult::Changed,
         PropResult::Stable,
         PropResult::Conflict,
     ];
-    say(&format!("strict propagate: {named:?} {answers:?}"));
-    assert!(answers.iter().all(|&n| n >= 1_000));
+    say(&format!(
+        "strict propagate: {named:?} {answers:?}; in {beyond} inputs an atom has an exp of an end beyond the clamp"
+    ));
+    assert!(answers.iter().all(|&n| n >= 1_000) && beyond >= 5_000);
+    // Else the reference itself would take notice of the flag.
     assert_eq!(told.by_flag, [0; 2]);
     told.done("propagate", 0);
 }
@@ -391,17 +432,54 @@ fn narrowing() {
 #[test]
 fn decisions() {
     let mut rng = SplitMix64::new(305);
-    let asked: [(&str, Decision); 2] = [("decide_forall", FORALL), ("decide_exists", EXISTS)];
-    for (name, decision) in asked {
-        let mut told = Told::default();
+    // Which verdicts the decision gives.
+    let asked: [(&str, Decision, [bool; 4]); 2] = [
+        ("decide_forall", FORALL, [true, false, true, true]),
+        ("decide_exists", EXISTS, [false, true, false, true]),
+    ];
+    for (name, decision, gives) in asked {
+        let (mut told, mut verdicts) = (Told::default(), [0_u64; 4]);
         for _ in 0..20_000 {
             let settings = numbers(&mut rng);
             let c = case(&mut rng, &settings);
             let question = c.question(&mut rng);
-            told.ask(&settings, |s| c.compare_decide(decision, &question, s));
+            let [strict, _] = told.ask(&settings, |s| c.compare_decide(decision, &question, s));
+            verdicts[taken_apart(&strict).0] += 1;
+        }
+        say(&format!(
+            "strict {name}: true, witness, counterexample, unknown {verdicts:?}"
+        ));
+        for (count, given) in verdicts.into_iter().zip(gives) {
+            assert!(if given { count >= 500 } else { count == 0 });
         }
         told.done(name, 300);
     }
+}
+
+/// In strict mode too a limit alters no answer but "limit".
+#[test]
+fn limits() {
+    let mut rng = SplitMix64::new(307);
+    let (mut seen, mut by_flag) = (Limited::default(), 0_u64);
+    while seen.problems < 1_000 {
+        let settings = numbers(&mut rng);
+        let c = case(&mut rng, &settings);
+        let tolerance = rng.pick(&TOLERANCES);
+        let strict = settings.with_strict(true);
+        // Of those that stop at once there are enough among the others.
+        if c.port(1, tolerance, &strict).stop != Stop::Limit && !rng.one_in(20) {
+            continue;
+        }
+        let last = c.compare_limits(tolerance, &strict, &mut seen);
+        let off = c.port(MOST, tolerance, &settings);
+        by_flag += u64::from(text(&last) != text(&off));
+    }
+    seen.say("in strict mode");
+    say(&format!(
+        "limits in strict mode: in {by_flag} problems the flag alone decides the last answer"
+    ));
+    assert!(seen.cut >= 500 && seen.assigned >= 100 && by_flag >= 100);
+    assert!(seen.stops[..4].iter().all(|&n| n >= 20));
 }
 
 /// A tree's value where exp is not clamped at all, and whether a node's left real part is beyond the clamp.

@@ -5,14 +5,14 @@
 //! Where that is another answer, a port that took no notice of the record, or of that number, would differ.
 
 use eml::Stop;
-use reference::case::{Case, EXISTS, FORALL, TOLERANCES, UNTOUCHED, listed};
+use reference::case::{Case, EXISTS, FORALL, Limited, TOLERANCES, UNTOUCHED, listed};
 use reference::compare::{Tally, hex, say, text};
 use reference::generate::{self, Shape, Temper};
 use reference::house;
 use reference::port::{self, bits};
 use reference::settings::Settings;
 use reference::smt::helpers::count_constraint_vars;
-use reference::smt::interval::{IntervalDomain, PropResult};
+use reference::smt::interval::PropResult;
 use reference::splitmix::SplitMix64;
 use reference::standins::{next_down, next_up};
 use std::fmt::Debug;
@@ -404,58 +404,22 @@ fn usual_settings() {
     assert_eq!(usual.refusal(), 0);
 }
 
-/// Under other settings too, with either value of the flag, a limit alters no answer but "limit"; and an assignment passes the check under the
-/// same settings, inside the box that the call got.
+/// Under other settings too a limit alters no answer but "limit".
 #[test]
 fn limits() {
-    const LIMITS: [usize; 9] = [1, 2, 3, 5, 8, 13, 30, 60, 400];
     let mut rng = SplitMix64::new(208);
-    let (mut problems, mut cut, mut assigned, mut stops) = (0_u64, 0_u64, 0_u64, [0_u64; 5]);
-    while problems < 2_000 {
+    let mut seen = Limited::default();
+    while seen.problems < 2_000 {
         let c = case(&mut rng);
-        let strict = rng.one_in(2);
-        let settings = generate::settings(&mut rng).with_strict(strict);
+        let settings = generate::settings(&mut rng);
         let tolerance = rng.pick(&TOLERANCES);
-        let file = c.bodies.to_file();
-        let solve = |limit: usize| {
-            port::solve_file(&file, limit, tolerance, &settings, 16).expect("accepted")
-        };
         // Of those that stop at once there are enough among the others.
-        if solve(1).stop != Stop::Limit && !rng.one_in(20) {
+        if c.port(1, tolerance, &settings).stop != Stop::Limit && !rng.one_in(20) {
             continue;
         }
-        problems += 1;
-        let last = solve(LIMITS[LIMITS.len() - 1]);
-        stops[last.stop as usize] += 1;
-        for limit in LIMITS {
-            let answer = solve(limit);
-            let call = || format!("{:?} {tolerance} {settings:?}: {answer:?}", c.parts);
-            if last.stop == Stop::Limit || limit < last.halvings {
-                assert_eq!(
-                    (answer.stop, answer.halvings),
-                    (Stop::Limit, limit),
-                    "{}",
-                    call()
-                );
-                cut += u64::from(last.stop != Stop::Limit);
-            } else {
-                assert_eq!(text(&answer), text(&last), "{}", call());
-            }
-        }
-        for answer in [solve(0), last] {
-            if answer.stop == Stop::Assignment {
-                assert!(c.check(&answer.point, &settings));
-                let domain = IntervalDomain::new(&c.parts.bounds, answer.point.len());
-                let inside = domain.vars.iter().zip(&answer.point);
-                assert!(inside.into_iter().all(|(v, &x)| v.contains(x)));
-                assigned += 1;
-            }
-        }
+        c.compare_limits(tolerance, &settings, &mut seen);
     }
-    say(&format!(
-        "limits under other settings: {problems} problems under {} limits, all alike; assignment, conflict, tolerance, limit, unsatisfied {stops:?}; {cut} answers 'limit' below the halvings of another; {assigned} assignments checked",
-        LIMITS.len()
-    ));
-    assert!(cut >= 1_000 && assigned >= 500);
-    assert!(stops[..4].iter().all(|&n| n >= 50), "{stops:?}");
+    seen.say("under other settings");
+    assert!(seen.cut >= 1_000 && seen.assigned >= 500);
+    assert!(seen.stops[..4].iter().all(|&n| n >= 50));
 }

@@ -71,14 +71,15 @@ pub struct Settings {
     /// A strict evaluation clamps no exp: an Eml node whose left value has a real part above the clamp or below its negative, an
     /// infinite one too, makes it answer [`Evaluation::ExpOverflow`](crate::Evaluation::ExpOverflow) with that real part. This
     /// is an error as any other: an atom does not pass the check where the evaluation of its node ends so, and its residual is
-    /// +inf there.
+    /// +inf there, of [`NeZero`](crate::Relation::NeZero) 0.
     ///
-    /// So an assignment of a constraint without Not, ForAll and Exists that is found in strict mode was met without clamping in
-    /// the atoms that made it true. More is not promised:
+    /// So in strict mode an assignment's constraint, if it has no Not, ForAll or Exists, was met without clamping in the atoms
+    /// that made it true. More is not promised:
     ///
     /// - A Not passes where what it takes fails by an error. The normal form ([`to_nnf`](crate::Records::to_nnf)) has none.
-    /// - The residual of [`NeZero`](crate::Relation::NeZero) is 0 where the evaluation of its node is an error, this one or
-    ///   another, so halving may keep a half of a box whose middle is such a point.
+    /// - Halving goes by the residuals of the middles: with a `NeZero` it may keep a half for an error, and where both middles
+    ///   fail by one it keeps the upper half, even where only the lower one has points that can be evaluated. So the bounds
+    ///   should keep the arguments of exp within the clamp.
     /// - Narrowing is as without the flag. It takes exp of intervals, which it neither clamps nor tests.
     ///
     /// ```

@@ -41,7 +41,7 @@ pub record Clamped : Type 0 where
   -- the stretch with the flag off, where exp(800) is exp(709); and with it set, where that is an error, and the lower half of v1 has a point
   pub off : solved usual ≡ assignment (mid binary64 (decimal 65 10) (decimal 663 100) ∷ whole 800 ∷ []) false 0
   pub on : solved strict ≡ assignment (mid binary64 (decimal 65 10) (decimal 663 100) ∷ whole 700 ∷ []) false 1
-  pub overflow : eval_real strict (decimal 6565 1000 ∷ whole 800 ∷ []) bar ≡ Err (ExpOverflow (whole 800))
+  pub overflow : eval_real strict (mid binary64 (decimal 65 10) (decimal 663 100) ∷ whole 800 ∷ []) bar ≡ Err (ExpOverflow (whole 800))
   -- the clamp and its negative are not beyond it, the next numbers are, and an infinity is
   pub at_clamp : eval_real strict [] (exp_of_const (whole 709)) ≡ eval_real usual [] (exp_of_const (whole 709))
   pub over : eval_real strict [] (exp_of_const (next_up binary64 (whole 709))) ≡ Err (ExpOverflow (next_up binary64 (whole 709)))

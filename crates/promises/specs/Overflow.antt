@@ -61,7 +61,7 @@ module _ (σ : Settings) (p : List Float) where
           let r = rest t v in
           record { before = i ∷ r.before; after = r.after; node = r.node; left_is = r.left_is; parts = ap (λ (js : List Instruction). i ∷ js) r.parts; ran = ap (λ (y : Outcome). and_then y (λ t. run σ p r.before t)) u ∙ r.ran; fails = r.fails }
 
-  -- ---- who answers ExpOverflow: an Eml node of the tree, at its place in postorder
+  -- ---- which node answers ExpOverflow: an Eml node of the tree, at its place in postorder
   -- x is the left real part of such a node, beyond the clamp, and those before it have left their values
   pub record AtNode (t : Tree) (x : Float) : Type 0 where
     pub before : List Instruction

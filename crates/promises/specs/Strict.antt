@@ -1,6 +1,6 @@
--- Document 02 [9], no clamped stretch in print, sentence by sentence, of the definitions, and where it ends in a promise of what the calls return. The contracts
--- name the record that their call receives, the flag in it; that each call answers what the definition says, under every accepted record, is said in
--- `Tuning` (`eval_01` and the eight like it). Assumes nothing.
+-- Document 02 [9], no clamped stretch in print, sentence by sentence, of the definitions, the last also of what the calls return. The contracts name the record
+-- that their call receives, the flag in it; that each call answers what the definition says, under every accepted record, is said in `Tuning` (`eval_01` and the
+-- eight like it). Assumes nothing.
 use Rattle.std.specs.Prelude.{◌≡◌, refl, ℕ, zero, suc, ◌/◌, Bool, true, false, not, ◌||◌, ◌⊎◌, T, List, [], ◌∷◌, ◌++◌, length, Float, Result, Ok, Err}
 use Rattle.std.specs.List.{find}
 use Rattle.std.proofs.Common.{ap}
@@ -153,11 +153,12 @@ module _ (σ : Settings) (p : List Float) (rel : Relation) (t : Tree) (e : EvalE
       by LeZero = refl
       by NeZero = refl
 
--- narrowing does not read the flag, whatever its value k is ("the exp of intervals" has no clamp);
+-- narrowing does not read the flag, whatever its value k is (its exp, of intervals, has no clamp);
 pub narrowing_untouched : (σ : Settings) (k : Bool) (c : Constraint) (b : List Interval) → propagate (flagged k σ) c b ≡ propagate σ c b
 narrowing_untouched σ k = propagate_same (flagged k σ) σ refl refl
 
--- so decisions and halving read it in the check and the residual alone. A decision asks narrowing and then the check, at one sample after the other;
+-- so decisions and halving read it in the check and the residual alone. `decide_forall` asks narrowing, and the check of its samples in order, `decide_exists`
+-- the check alone;
 module _ (σ : Settings) (k : Bool) where
   pub forall_by_check : (v : ℕ) (lo hi : Float) (c : Constraint) (n : ℕ) → decide_forall (flagged k σ) v lo hi c n
       ≡ forall_by n v (refutes σ c (boxes_at n v (lo ‥ hi))) (find (λ x. not (check (flagged k σ) (point_at n v x) c)) (forall_samples lo hi))
@@ -169,7 +170,8 @@ module _ (σ : Settings) (k : Bool) where
   unfolding decide_exists
   exists_by_check v lo hi c n = refl
 
-  -- and a halving chooses by the residual (`halved`), narrows, and then tests by the check and gives the residual (`settle_narrowed`), as the beginning tests.
+  -- and a halving chooses by the residual (`halved`), narrows, and then tests by the check and gives the residual (`settle_narrowed`). The beginning narrows
+  -- and tests by the check (`begin_narrowed`).
   pub halving_by_both : (p : Problem) (s : State) → halve (flagged k σ) p s
       ≡ (let r = propagate σ p.constraint (halved (flagged k σ) p.constraint s.boxes) in settle_narrowed (flagged k σ) p (suc s.halvings) (is_conflict r.answer) r.places)
   unfolding halve settle_in

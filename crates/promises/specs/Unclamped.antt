@@ -35,7 +35,7 @@ abbrev pub left_within : Float → Result Complex EvalError → Bool
 left_within most (Ok a) = not (beyond most a.re)
 left_within most (Err e) = false
 
--- each Eml node of the tree has such a left value
+-- each Eml node of the tree has such a left value, in the evaluation with no clamp at all
 unfoldable pub none_beyond : Float → List Float → Tree → Bool
 none_beyond most p Tree.One = true
 none_beyond most p (Tree.Const v) = true
