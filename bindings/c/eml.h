@@ -155,9 +155,9 @@ typedef struct eml_settings {
      *
      * So with this set an assignment's constraint, if it has no EML_KIND_NOT, EML_KIND_FORALL or EML_KIND_EXISTS, was met
      * without clamping in the atoms that made it true. More is not promised: EML_KIND_NOT passes where what it takes fails by
-     * an error; where both middles fail by one, halving keeps the upper half, even where only the lower one has points that
-     * can be evaluated, so the bounds should keep the arguments of exp within the clamp; and narrowing is as without this: it
-     * takes exp of intervals, which it neither clamps nor tests.
+     * an error; where errors make the residuals of both middles +inf, halving keeps the upper half, even where only the lower
+     * one has points that can be evaluated, so the bounds should keep the arguments of exp within the clamp; and narrowing is
+     * as without this: it takes exp of intervals, which it neither clamps nor tests.
      */
     bool strict;
 } eml_settings;

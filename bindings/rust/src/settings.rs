@@ -77,9 +77,9 @@ pub struct Settings {
     /// that made it true. More is not promised:
     ///
     /// - A Not passes where what it takes fails by an error. The normal form ([`to_nnf`](crate::Records::to_nnf)) has none.
-    /// - Halving goes by the residuals of the middles: with a `NeZero` it may keep a half for an error, and where both middles
-    ///   fail by one it keeps the upper half, even where only the lower one has points that can be evaluated. So the bounds
-    ///   should keep the arguments of exp within the clamp.
+    /// - Halving goes by the residuals of the middles: with a `NeZero` it may keep a half for an error, and where errors make both
+    ///   +inf it keeps the upper half, even where only the lower one has points that can be evaluated. So the bounds should keep
+    ///   the arguments of exp within the clamp.
     /// - Narrowing is as without the flag. It takes exp of intervals, which it neither clamps nor tests.
     ///
     /// ```
