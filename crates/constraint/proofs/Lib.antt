@@ -1,3 +1,4 @@
 pub mod Testing
 pub mod Putting
 pub mod Taking
+pub mod Filling

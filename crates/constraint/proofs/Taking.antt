@@ -1,18 +1,17 @@
 -- What a record takes is there, and finishes. Assumes nothing.
-use Prim.Native.Nat.{ℕ, suc, ◌+◌, ◌-◌, ◌≤◌, ◌<◌}
-use mathlib.Core.Path.{◌≡◌, refl, sym, ap, ◌∙◌}
+use Prim.Native.Nat.{ℕ, suc, ◌+◌, ◌-◌, ◌<◌}
+use mathlib.Core.Path.{◌≡◌, refl, ap, ◌∙◌}
 use mathlib.Core.List.{List, [], ◌∷◌}
-use native.Mathlib.Nat.{sub-zero}
 use native.Mathlib.Omega.{arith}
 use lib.Ieee.{Float}
 use lib.ListN.{length, length-append}
 use lib.Seq.{length-take-le}
 use Rattle.std.proofs.lemmas.List.{drop-take}
-use Rattle.constraint.specs.Records.{takes, finished, formula_at}
+use Rattle.constraint.specs.Records.{finished, formula_at}
 use Rattle.constraint.specs.Starts.{start_at}
-use Rattle.constraint.specs.StartLaws.{chain, start_below, height_below, start_before, start_of, start_none, start_next}
+use Rattle.constraint.specs.StartLaws.{chain, start_below, height_below}
 use Rattle.constraint.specs.Views.{record_of}
-use Rattle.constraint.specs.RecordLaws.{taken_here, none_taken, up_to_last, inside, atom_node, at_atom, at_not, at_and, and_taken, at_or, or_taken, at_forall, at_exists}
+use Rattle.constraint.specs.RecordLaws.{none_taken, up_to_last, inside, atom_node, at_atom, at_not, at_and, and_taken, at_or, or_taken, at_forall, at_exists}
 use Rattle.constraint.specs.VarLaws.{named}
 use Rattle.constraint.specs.declared.Record.{Record}
 use Rattle.constraint.specs.declared.records.Records.{Records}
@@ -38,18 +37,3 @@ pub ruleset shapes = (not_inside, named_forall, named_exists, atom_node, at_atom
 
 -- a part of a list
 pub ruleset parts = (length-take-le, drop-take)
-
--- of what record k takes, e in number, the c last ones are passed: where the others start
-pub enough : (r : Records) (k : ℕ) → k < r.count → takes (record_of r k) ≤ length (finished r.constraints.now k)
-enough r k l = (taken_here r k l _ refl _ refl).enough
-
-module _ (b : List ℕ) (e c k : ℕ) where
-  pub start_more : c < e → 0 < k → (s : ℕ) → s ≡ start_at b (k - 1) → start_before b (e - (c + 1)) s ≡ start_before b (e - c) k
-  start_more h g s is =
-      let m : e - (c + 1) ≡ e - c - 1 = omega arith in
-      rw (is, m) (sym (start_next b (e - c) k (omega arith) g))
-
-  pub start_here : e ≤ c → start_before b (e - c) k ≡ k
-  start_here h = let m : e - c ≡ 0 = omega arith in rw m (start_none b k)
-
-pub ruleset starts = (sub-zero, enough, height_below, start_below, one_fewer, start_of, start_more, start_here)

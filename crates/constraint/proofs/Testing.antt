@@ -96,7 +96,21 @@ module _ (n : ℕ) (b : List ℕ) (k : ℕ) (s : List Finished) (none_refused : 
   unfolding records_refusal
   not_one e = simp (none_refused, height, ne_eqb _ _ e)
 
-  -- the tests of m records, in order: record k is refused
+  -- record k is refused
+  pub record_here : is_record n b k ≡ false → 5 ≡ record_refusal n b k
+  unfolding record_refusal
+  record_here e = simp e
+
+  module _ (is : is_record n b k ≡ true) where
+    pub few_here : length s < takes (record_at b k) → 5 ≡ record_refusal n b k
+    unfolding record_refusal
+    few_here h = simp (is, height, lt-leb _ _ h)
+
+    pub range_here : takes (record_at b k) ≤ length s → is_ranged (record_at b k) ≡ false → 6 ≡ record_refusal n b k
+    unfolding record_refusal
+    range_here h e = simp (is, height, le-leb _ _ h, e)
+
+  -- and so are m, of which it is one
   module _ (m : ℕ) (l : k < m) where
     refused : (x : ℕ) → (x ≡ 0 → ⊥) → x ≡ record_refusal n b k → x ≡ records_refusal n b m
     unfolding records_refusal
@@ -107,17 +121,14 @@ module _ (n : ℕ) (b : List ℕ) (k : ℕ) (s : List Finished) (none_refused : 
     stop r e = refused (number_of r) (never_none r) e
 
     pub five_record : is_record n b k ≡ false → 5 ≡ records_refusal n b m
-    unfolding record_refusal
-    five_record e = stop Refusal.Constraint (simp e)
+    five_record e = stop Refusal.Constraint (record_here e)
 
     module _ (is : is_record n b k ≡ true) where
       pub five_few : length s < takes (record_at b k) → 5 ≡ records_refusal n b m
-      unfolding record_refusal
-      five_few h = stop Refusal.Constraint (simp (is, height, lt-leb _ _ h))
+      five_few h = stop Refusal.Constraint (few_here is h)
 
       pub six : takes (record_at b k) ≤ length s → is_ranged (record_at b k) ≡ false → 6 ≡ records_refusal n b m
-      unfolding record_refusal
-      six h e = stop Refusal.Range (simp (is, height, le-leb _ _ h, e))
+      six h e = stop Refusal.Range (range_here is h e)
 
   -- record k is x, and takes m
   module _ (is : is_record n b k ≡ true) (x : Record) (ix : x ≡ record_at b k) (m : ℕ) (im : m ≡ takes x) (enough : m ≤ length s) where

@@ -1,5 +1,5 @@
 -- Laws of constraint records that passed: what a function that reads them cites. Assumes nothing.
-use Prim.Native.Nat.{ℕ, zero, suc, ◌+◌, ◌*◌, ◌-◌, ◌/◌, ◌≤◌, ◌<◌}
+use Prim.Native.Nat.{ℕ, zero, suc, ◌+◌, ◌*◌, ◌-◌, ◌≤◌, ◌<◌}
 use Rattle.std.specs.Prelude.{◌≡◌, refl, Bool, true, false, ◌&&◌, T, leb, ltb, eqb, Float, get_or}
 use Rattle.std.proofs.Common.{sym, ◌∙◌, subst, length-append}
 use Rattle.std.proofs.Math.Path.{ap, ap₂}
@@ -136,15 +136,15 @@ one_taken b zero h = absurd (omega arith)
 one_taken b (suc n) h = ap (formula_at b) (omega arith)
 
 -- ---- records that passed
-pub ready : (nodes b : List ℕ) (n : ℕ) → records_refusal (length nodes / 16) b n ≡ 0 → Valid nodes (length nodes / 16) → n ≤ 256 → 24 * n ≤ length b → Ready nodes b n
-ready nodes b n e v few there = record {
+pub ready : (count : ℕ) (nodes b : List ℕ) (n : ℕ) → records_refusal count b n ≡ 0 → Valid nodes count → n ≤ 256 → 24 * n ≤ length b → Ready nodes count b n
+ready count nodes b n e v few there = record {
   valid = v;
   few = few;
   there = there;
-  passed = none_of_each (record_refusal (length nodes / 16) b) n (tests (length nodes / 16) b n e).0;
+  passed = none_of_each (record_refusal count b) n (tests count b n e).0;
 }
 
-pub fewer : {nodes b : List ℕ} {n : ℕ} → Ready nodes b n → (m : ℕ) → m ≤ n → Ready nodes b m
+pub fewer : {nodes b : List ℕ} {count n : ℕ} → Ready nodes count b n → (m : ℕ) → m ≤ n → Ready nodes count b m
 fewer p m h = record {
   valid = p.valid;
   few = omega (arith, p.few);
@@ -161,8 +161,8 @@ module _ (r : Records) where
 
   -- record k, by what it says
   module _ (k : ℕ) (l : k < r.count) where
-    here : Stands (length nodes / 16) b k
-    here = stands (length nodes / 16) b k (r.ready.passed k l)
+    here : Stands r.node_count b k
+    here = stands r.node_count b k (r.ready.passed k l)
 
     pub record_there : 24 * k + 24 ≤ length b
     record_there = omega (arith, r.ready.there)
@@ -181,11 +181,11 @@ module _ (r : Records) where
     mapped e = ap (map_formula (tree_at nodes)) e
 
     module _ (x : Record) (e : record_of r k ≡ x) where
-      over_count : Writable (length nodes / 16) x
-      over_count = subst (Writable (length nodes / 16)) e (writable (length nodes / 16) b k (omega (arith, r.ready.few)) here)
+      over_count : Writable r.node_count x
+      over_count = subst (Writable r.node_count) e (writable r.node_count b k (omega (arith, r.ready.few)) here)
 
       pub writable_here : Writable 1024 x
-      writable_here = writable_more (length nodes / 16) 1024 r.ready.valid.few x over_count
+      writable_here = writable_more r.node_count 1024 r.ready.valid.few x over_count
 
       enough_here : takes x ≤ length (finished b k)
       enough_here = subst (λ (y : Record). takes y ≤ length (finished b k)) e here.enough
@@ -211,7 +211,7 @@ module _ (r : Records) where
       at_atom = mapped (formula_here (Record.Atom rel i) e)
 
       pub atom_node : Valid nodes (i + 1)
-      atom_node = nodes-prefix nodes (length nodes / 16) r.ready.valid (i + 1) (omega (arith, over_count (Record.Atom rel i) e))
+      atom_node = nodes-prefix nodes r.node_count r.ready.valid (i + 1) (omega (arith, over_count (Record.Atom rel i) e))
 
     pub formula_not : record_of r k ≡ Record.Not → formula_at b k ≡ Not (formula_at b (k - 1))
     unfolding finish

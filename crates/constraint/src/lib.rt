@@ -17,7 +17,7 @@ ghost use Rattle.constraint.specs.Comparison.{compared};
 ghost use Rattle.constraint.specs.Code.{kind_number, binds, Writable, Puts, words_bytes};
 
 use record::Refusal;
-pub use records::Records;
+pub use records::{Records, test_records};
 pub use shape::{EmlConstraint, Operands, Shape};
 
 // How an atom compares its tree's value with zero, in the order of document 01's kinds, 0 to 5.

@@ -4,7 +4,7 @@
 ghost use Rattle.std.specs.Prelude.{◌≡◌, ◌≤◌, ◌<◌, ◌++◌, [], ◌∷◌, length, IfSome, IfNone};
 ghost use Rattle.constraint.specs.Records.{finished};
 
-use crate::{Record, Records, Relation, record_in, taken_by};
+use crate::{Record, Records, Relation, record_in};
 use tree::EmlTree;
 
 // The constraint that record `root` finishes.
@@ -84,20 +84,10 @@ impl<'a> EmlConstraint<'a> {
     }
 
     // Its first record: that of the oldest that it takes, or its own.
-    #[tactic(auto, using(crate::proofs::Taking::starts))]
     pub fn start(self) -> usize
         ensures { result ≡ start_at self.entry.records.now.constraints.now self.entry.root }
     {
-        let EmlConstraint { records, root } = self;
-        let mut start = root;
-        for _ in 0..taken_by(record_in(records.constraints, root)) {
-            let last = EmlConstraint {
-                records,
-                root: start - 1,
-            };
-            start = last.start();
-        }
-        start
+        usize::from(self.records.starts[self.root])
     }
 
     // The number of its variables.

@@ -18,4 +18,5 @@ header_refusal file = 1 unless is_headed file or_else 2 unless is_laid_out file
 pub record Holds (nodes b : List ℕ) (r : Records) : Type 0 where
   pub nodes_are : r.nodes.now ≡ nodes
   pub constraints_are : r.constraints.now ≡ b
+  pub nodes_counted : r.node_count ≡ length nodes / 16
   pub counted : r.count ≡ length b / 24

@@ -161,7 +161,8 @@ fn read_bounds(bytes: &[u8]) -> Result<Domain, Refusal>
     Ok(Domain { boxes, count })
 }
 
-// The tests of nodes, 3, 4, and of the constraint records over them, 5, 6, 7.
+// The tests of nodes, 3, 4, and of the constraint records over them, 5, 6, 7. (Inlined, as `Records::new`.)
+#[inline(always)]
 #[tactic(auto, using(crate::proofs::Parts::record_tests))]
 fn read_records<'a>(nodes: &'a [u8], constraints: &'a [u8]) -> Result<Records<'a>, Refusal>
     requires { (length nodes.now / 16 ≤ 1024) × (length constraints.now / 24 ≤ 256) }
