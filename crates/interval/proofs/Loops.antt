@@ -1,7 +1,11 @@
 -- The steps of the loops over boxes, over plain values. Assumes nothing.
 use Prim.Native.Nat.{ℕ, zero, suc, ◌+◌, ◌<◌, ◌≤◌, min}
 use mathlib.Core.Path.{◌≡◌, refl, sym, ap, ap₂, ◌∙◌}
-use mathlib.Core.Bool.{true, ◌&&◌}
+use mathlib.Core.Bool.{Bool, true, ◌&&◌}
+use Rattle.std.specs.Prelude.{zip}
+use Rattle.std.specs.List.{list_all}
+use Rattle.std.specs.Float.{binary64}
+use Rattle.number.specs.Sound.{sound}
 use mathlib.Core.List.{List, [], ◌∷◌, ◌++◌}
 use native.Mathlib.Nat.{le_of_suc-le-suc}
 use native.Mathlib.Numerals.{add-one}
@@ -14,8 +18,8 @@ use Rattle.std.proofs.lemmas.List.Edits.{paste_more}
 use Rattle.interval.specs.Interval.{◌‥◌}
 use Rattle.interval.specs.Boxes.{missing, starting}
 use lib.Dec.{leb, eqb}
-use Rattle.interval.specs.Boxes.{intervals}
-use Rattle.interval.specs.BoxLaws.{midpoints_length, padded_more, intervals_length, intervals_at, ends_paired, lows_length, highs_length, zeros_blank, padded_places, padded_blank, set_blank}
+use Rattle.interval.specs.Boxes.{intervals, lows, highs}
+use Rattle.interval.specs.BoxLaws.{starting_length, midpoints_length, padded_more, intervals_length, intervals_at, ends_paired, lows_length, highs_length, zeros_blank, padded_places, padded_blank, set_blank}
 use Rattle.interval.specs.declared.Interval.{Interval}
 
 -- ---- a list that is filled from another
@@ -53,6 +57,42 @@ started_16 n k bounds h e = started n 16 k bounds h e
 pub take_16 : {A : Type 0} (n : ℕ) (x : A) → n ≤ 16 → take n (replicate 16 x) ≡ replicate n x
 take_16 n x h = take-replicate n 16 x h
 
+-- ---- the same without a list of boxes
+-- box i of the starting ones
+started_at : (n i : ℕ) (bounds : List Interval) (d : Interval) → i < n → get_or (starting n bounds) i d ≡ get_or bounds i missing
+unfolding starting
+started_at zero i bounds d h = absurd (omega arith)
+started_at (suc n) zero [] d h = refl
+started_at (suc n) zero (b ∷ bounds) d h = refl
+started_at (suc n) (suc i) [] d h = started_at n i [] d (omega arith)
+started_at (suc n) (suc i) (b ∷ bounds) d h = started_at n i bounds d (omega arith)
+
+module _ (n i : ℕ) (bounds : List Interval) (h : i < n) {b : Interval} (e : b ≡ get_or bounds i missing) where
+  pub started_low : b.lo ≡ get_or (lows (starting n bounds)) i nan
+  started_low =
+      ap (λ (x : Interval). x.lo) (e ∙ sym (started_at n i bounds missing h))
+      ∙ sym (get_or-map (λ (x : Interval). x.lo) (starting n bounds) i missing nan (omega (arith, starting_length n bounds)))
+
+  pub started_high : b.hi ≡ get_or (highs (starting n bounds)) i nan
+  started_high =
+      ap (λ (x : Interval). x.hi) (e ∙ sym (started_at n i bounds missing h))
+      ∙ sym (get_or-map (λ (x : Interval). x.hi) (starting n bounds) i missing nan (omega (arith, starting_length n bounds)))
+
+-- beyond the ends
+pub beyond : (lo hi : List Float) (i : ℕ) → length hi ≡ length lo → length lo ≤ i → missing ≡ get_or (intervals lo hi) i missing
+unfolding intervals
+beyond [] hi i e h = refl
+beyond (l ∷ lo) [] i e h = absurd (omega arith)
+beyond (l ∷ lo) (x ∷ hi) zero e h = absurd (omega arith)
+beyond (l ∷ lo) (x ∷ hi) (suc i) e h = beyond lo hi i (omega arith) (omega arith)
+
+-- each pair of ends
+pub sound_ends : (lo hi : List Float) → list_all (λ (p : Float × Float). sound binary64 p.0 p.1) (zip lo hi) ≡ list_all (λ (i : Interval). sound binary64 i.lo i.hi) (intervals lo hi)
+unfolding intervals
+sound_ends [] hi = refl
+sound_ends (l ∷ lo) [] = refl
+sound_ends (l ∷ lo) (h ∷ hi) = ap (λ (t : Bool). sound binary64 l h && t) (sound_ends lo hi)
+
 -- ---- what a loop has left of a list, and what it has made
 pub ruleset shorter = (drop-cons, drop_of_length-le, add-one)
 
@@ -63,5 +103,7 @@ pub ruleset zeros = (take_16, zeros_blank)
 pub ruleset places = (take_16, take-set-lt, padded_places, padded_blank, set_blank)
 
 pub ruleset placed = (take_all, intervals_length, ends_paired)
+
+pub ruleset begun = (started_low, started_high, starting_length)
 
 pub ruleset pasted = (pasted_more, lows_length, highs_length, get_or-map)

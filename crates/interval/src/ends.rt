@@ -1,11 +1,11 @@
 // Boxes as two lists of ends, as C gives and takes them.
-ghost use Rattle.std.specs.Prelude.{◌≡◌, ◌≤◌, length, IfOk};
+ghost use Rattle.std.specs.Prelude.{◌≡◌, ◌≤◌, length, get_or, IfOk};
 ghost use Rattle.record.specs.Leaving.{◌leaving◌};
 ghost use Rattle.record.specs.Refusal.{◌unless◌};
 ghost use Rattle.record.specs.Refused.{refusal_of, numbered};
 ghost use Rattle.record.specs.Views.{old, final};
 ghost use Rattle.std.proofs.Math.Seq.{paste};
-ghost use Rattle.interval.specs.Boxes.{intervals, lows, highs, are_paired, are_boxes};
+ghost use Rattle.interval.specs.Boxes.{missing, intervals, lows, highs, starting, all_sound, are_paired, are_boxes};
 ghost use Rattle.interval.specs.Domain.{domain_new, domain_is_empty};
 ghost use Rattle.interval.specs.Views.{intervals_of};
 
@@ -69,10 +69,45 @@ pub fn write_ends(boxes: &[Interval], lo: &mut [f64], hi: &mut [f64])
     }
 }
 
+// Whether each pair of ends is a sound box. (No list of boxes is made for it.)
+#[tactic(auto, using(crate::proofs::Loops::sound_ends), unfolding(crate::specs::Boxes::all_sound))]
+fn are_sound(lo: &[f64], hi: &[f64]) -> bool
+    requires { length hi.now ≡ length lo.now }
+    ensures { result ≡ all_sound (intervals lo.now hi.now) }
+{
+    lo.iter().zip(hi).all(|(l, h)| number::is_sound(*l, *h))
+}
+
+// The box of variable i by its ends.
+#[tactic(auto, using(crate::specs::BoxLaws::intervals_at, crate::proofs::Loops::beyond), unfolding(crate::specs::Boxes::missing, number::specs::Computing::computing))]
+fn bound_at(lo: &[f64], hi: &[f64], i: usize) -> Interval
+    requires { length hi.now ≡ length lo.now }
+    ensures { result ≡ get_or (intervals lo.now hi.now) i missing }
+{
+    if i < lo.len() {
+        return Interval::new(lo[i], hi[i]);
+    }
+    MISSING
+}
+
+// Writes the first n of the bounds, a missing one being [-10, 10], to the first places of two lists.
+#[tactic(auto, using(crate::proofs::Loops::pasted, crate::proofs::Loops::begun))]
+fn write_starting(lo: &[f64], hi: &[f64], n: usize, out_lo: &mut [f64], out_hi: &mut [f64])
+    requires { (length hi.now ≡ length lo.now) × (n ≤ length out_lo.old) × (n ≤ length out_hi.old) }
+    ensures lo_value { final out_lo ≡ paste (old out_lo) 0 (lows (starting n (intervals lo.now hi.now))) n }
+    ensures hi_value { final out_hi ≡ paste (old out_hi) 0 (highs (starting n (intervals lo.now hi.now))) n }
+{
+    for i in 0..n {
+        let b = bound_at(lo, hi, i);
+        out_lo[i] = b.lo;
+        out_hi[i] = b.hi;
+    }
+}
+
 // ---- what the exported calls call
 
 // IntervalDomain::new. A refusal writes nothing.
-#[tactic(auto, using(record::specs::RefusalLaws::never_none), unfolding(crate::specs::Domain::domain_new, crate::specs::Domain::domain_refusal))]
+#[tactic(auto, using(record::specs::RefusalLaws::never_none), unfolding(crate::specs::Domain::domain_new, crate::specs::Domain::domain_refusal, crate::specs::Boxes::are_boxes))]
 pub fn domain_new(
     lo: &[f64],
     hi: &[f64],
@@ -82,10 +117,13 @@ pub fn domain_new(
 ) -> Result<(), Refusal>
     ensures { (refusal_of result leaving (final out_lo, final out_hi)) ≡ domain_new lo.now hi.now n (old out_lo) (old out_hi) }
 {
-    let bounds = Domain::of_sound_ends(lo, hi)?;
-    let count = Count::try_from(n)?;
+    count_ends(lo, hi)?;
+    if !are_sound(lo, hi) {
+        return Err(Refusal::Boxes);
+    }
+    Count::try_from(n)?;
     if (n <= out_lo.len()) & (n <= out_hi.len()) {
-        write_ends(bounds.starting(count).as_slice(), out_lo, out_hi);
+        write_starting(lo, hi, n, out_lo, out_hi);
         return Ok(());
     }
     Err(Refusal::Room)

@@ -36,17 +36,19 @@ fn hull_boxes(a: Domain, b: Domain) -> Domain
     Domain { boxes, count }
 }
 
-// The hull of the branches that survived so far, after one more, which answered `res` and left b.
-fn survive(so_far: Option<Domain>, res: PropResult, b: Domain) -> Option<Domain>
-    ensures { option_map intervals_of result ≡ survive_of (option_map intervals_of so_far) (res leaving intervals_of b) }
+// The hull of the branches that survived so far, after one more, which answered `res` and left b. (Lent: as values the boxes stood on the stack
+// once more for each branch.)
+fn survive(so_far: &mut Option<Domain>, res: PropResult, b: &Domain)
+    ensures { option_map intervals_of (final so_far) ≡ survive_of (option_map intervals_of (old so_far)) (res leaving intervals_of b.now) }
 {
     if res == PropResult::Conflict {
-        return so_far;
+        return;
     }
-    match so_far {
-        Some(hull) => Some(hull_boxes(hull, b)),
-        None => Some(b),
-    }
+    let hull = match so_far {
+        Some(hull) => hull_boxes(*hull, *b),
+        None => *b,
+    };
+    *so_far = Some(hull);
 }
 
 // A box after an Or goes to its part inside the hull, where that is not empty and an end moves.
@@ -74,10 +76,10 @@ fn adopt(settings: Settings, hull: &[Interval], boxes: &mut [Interval]) -> PropR
 
 fn adopt_survivors(
     settings: Settings,
-    survivors: Option<Domain>,
+    survivors: &Option<Domain>,
     boxes: &mut [Interval],
 ) -> PropResult
-    ensures { (result leaving final boxes) ≡ adopt_survivors settings (option_map intervals_of survivors) (old boxes) }
+    ensures { (result leaving final boxes) ≡ adopt_survivors settings (option_map intervals_of survivors.now) (old boxes) }
 {
     match survivors {
         Some(hull) => adopt(settings, hull.as_slice(), boxes),
@@ -178,22 +180,25 @@ impl Propagator {
         requires { length boxes.old ≤ 16 }
         ensures { (result leaving final boxes) ≡ pass_or self.settings self.mode (gather (meanings cs.entry)) (old boxes) }
     {
-        let survivors = self.survivors_of(cs, boxes);
-        adopt_survivors(self.settings, survivors, boxes)
+        let mut survivors = None;
+        self.survivors_of(cs, boxes, &mut survivors);
+        adopt_survivors(self.settings, &survivors, boxes)
     }
 
     // The hull of those that survive, each narrowed from the same boxes.
     #[tactic(auto, using(crate::proofs::Passes::several))]
     #[cycle(round)]
-    fn survivors_of(self, cs: Operands, boxes: &[Interval]) -> Option<Domain>
+    fn survivors_of(self, cs: Operands, boxes: &[Interval], hull: &mut Option<Domain>)
         requires { length boxes.now ≤ 16 }
-        ensures { option_map intervals_of result ≡ pass_any self.settings self.mode (gather (meanings cs.entry)) boxes.now None }
+        ensures { option_map intervals_of (final hull) ≡ pass_any self.settings self.mode (gather (meanings cs.entry)) boxes.now (option_map intervals_of (old hull)) }
     {
-        let (last, others) = cs.split_last()?;
-        let so_far = self.survivors_of(others, boxes);
+        let Some((last, others)) = cs.split_last() else {
+            return;
+        };
+        self.survivors_of(others, boxes, hull);
         let mut branch = Domain::of_list(boxes);
         let result = self.narrow_branch(last, &mut branch);
-        survive(so_far, result, branch)
+        survive(hull, result, &branch);
     }
 
     // A round on a branch's copy.

@@ -91,7 +91,8 @@ fn variable(i: usize, point: &[f64]) -> Result<Complex, EvalError>
 
 // ---- settings, a point and a stack side by side: a quantifier alters the point alone, and only the stack is written
 
-// An Eml of the two values on top of the stack, which are taken from it.
+// An Eml of the two values on top of the stack, which are taken from it. (Not inlined: what it computes with would be kept at each level of a tree.)
+#[inline(never)]
 fn reduce(settings: &Settings, stack: &mut Stack) -> Result<Complex, EvalError>
     ensures { pushed result stack.new ≡ reduced settings.now stack.old }
 {

@@ -108,6 +108,9 @@ module _ (b : List ℕ) (n : ℕ) (v : Valid b n) where
     pub passed_node : is_node b k ≡ true
     passed_node = (passed b k (v.each k l)).0
 
+    pub size_small : size (tree_at b k) ≤ 4096
+    size_small = (small_parts (tree_at b k) (passed b k (v.each k l)).1).0
+
     pub depth_small : depth (tree_at b k) ≤ 128
     depth_small = (small_parts (tree_at b k) (passed b k (v.each k l)).1).1
 

@@ -229,6 +229,8 @@ pub fn test_list(nodes: &[u8], count: usize) -> Result<(), Refusal>
 {
     if count <= 64 {
         test_within::<64>(nodes, count)
+    } else if count <= 256 {
+        test_within::<256>(nodes, count)
     } else {
         test_within::<1024>(nodes, count)
     }
@@ -263,15 +265,24 @@ impl<'a> EmlTree<'a> {
     }
 
     // The number of its variables.
-    #[tactic(auto, unfolding(crate::specs::Tree::tree_vars))]
     pub fn num_vars(self) -> usize
         ensures { result ≡ tree_vars (the_tree self.entry) }
     {
-        match self.node() {
-            Node::One | Node::Const(_) => 0,
-            Node::Var(i) => i + 1,
-            Node::Eml(left, right) => left.num_vars().max(right.num_vars()),
-        }
+        vars_at(self.nodes, self.root)
+    }
+}
+
+// The same of node k's tree, by node numbers: a tree that is passed by value goes through memory, and took twice as long.
+#[cycle(vars_at)]
+#[tactic(auto, using(crate::specs::NodeLaws::node_trees, crate::specs::NodeLaws::valid_trees), unfolding(crate::specs::Tree::tree_vars))]
+fn vars_at(nodes: &[u8], k: usize) -> usize
+    requires { Valid nodes.now (k + 1) }
+    ensures { result ≡ tree_vars (tree_at nodes.now k) }
+{
+    match node_in(nodes, k) {
+        Node::One | Node::Const(_) => 0,
+        Node::Var(i) => i + 1,
+        Node::Eml(l, r) => vars_at(nodes, l).max(vars_at(nodes, r)),
     }
 }
 
