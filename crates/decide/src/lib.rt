@@ -11,7 +11,7 @@ ghost use Rattle.decide.specs.Deciding.{verdict_number, later_refusal, decide_fo
 ghost use Rattle.decide.specs.Views.{result_of, answered, Asks};
 
 use interval::{Count, Interval, Point};
-use question::Question;
+pub use question::Question;
 use record::Refusal;
 use settings::Settings;
 

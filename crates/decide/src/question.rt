@@ -11,7 +11,7 @@ use point::helpers::check_constraint;
 use point::stack::Stack;
 use settings::Settings;
 
-#[derive(Drop)]
+#[derive(Clone, Copy)]
 pub struct Question<'a> {
     pub records: Records<'a>,
     pub settings: Settings,

@@ -11,7 +11,7 @@ use settings::Settings;
 
 // What stays the same in a run: the records, whose constraint is to be met, the settings, the limit, the tolerance. The stack that the checks are
 // lent is no part of it: a task is only read.
-#[derive(Drop)]
+#[derive(Clone, Copy)]
 pub struct Task<'a> {
     pub records: Records<'a>,
     pub settings: Settings,

@@ -10,7 +10,8 @@ use Rattle.nra.specs.Solver.{Answer, assignment, failed, halvings_of, reached}
 use Rattle.nra.specs.Answers.{assignment_word, word_number}
 use Rattle.nra.specs.Fits.{point_of}
 use Rattle.eml.specs.Answers.{number_of, writing, propagated}
-use Rattle.eml.specs.Places.{Solution, solution_of, solved}
+use Rattle.decide.specs.Deciding.{QuantResult}
+use Rattle.eml.specs.Places.{Solution, Decision, solution_of, solved, decided}
 use Rattle.promises.specs.Received.{Settled, Counted}
 use Rattle.promises.specs.Kept.{Kept, Keeps}
 
@@ -47,6 +48,10 @@ pub unwritten : (x : Result Answer ℕ) (old : Solution) → ((solved x old).ans
 unwritten (Ok a) old n = absurd (n refl)
 unwritten (Err r) old n = refl
 
+pub undecided : (x : Result QuantResult ℕ) (old : Decision) → ((decided x old).answer ≡ 0 → ⊥) → (decided x old).places ≡ old
+undecided (Ok q) old n = absurd (n refl)
+undecided (Err r) old n = refl
+
 module _ {x : Result Answer ℕ} {a : Answer} (is : x ≡ Ok a) (old : Solution) where
   pub left_is : (solved x old).places ≡ solution_of a old.point
   left_is = ap (λ (r : Result Answer ℕ). (solved r old).places) is
@@ -66,14 +71,14 @@ not_limit_left (failed Stop.Tolerance r h) places n = refl
 not_limit_left (failed Stop.Limit r h) places n = absurd (n refl)
 not_limit_left (failed Stop.Unsatisfied r h) places n = refl
 
-limit_reached : (a : Answer) (places : List Float) → (solution_of a places).stop ≡ limit_word → reached a ≡ true
+pub limit_reached : (a : Answer) (places : List Float) → (solution_of a places).stop ≡ limit_word → reached a ≡ true
 limit_reached (assignment m exact h) places e = absurd (omega arith)
 limit_reached (failed Stop.Conflict r h) places e = absurd (omega arith)
 limit_reached (failed Stop.Tolerance r h) places e = absurd (omega arith)
 limit_reached (failed Stop.Limit r h) places e = refl
 limit_reached (failed Stop.Unsatisfied r h) places e = absurd (omega arith)
 
-halvings_left : (a : Answer) (places : List Float) → (solution_of a places).halvings ≡ halvings_of a
+pub halvings_left : (a : Answer) (places : List Float) → (solution_of a places).halvings ≡ halvings_of a
 halvings_left (assignment m exact h) places = refl
 halvings_left (failed w r h) places = refl
 

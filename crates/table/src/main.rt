@@ -42,7 +42,7 @@ fn is_same(solved: &Solved, head: &[u8; 176]) -> bool {
 }
 
 // Reads the file, and solves it. Byte 8 has the limit, 16 the tolerance. A refusal is its number only: the stop word is
-// then unsatisfied's, and the rest 0.
+// then unsatisfied's, no point exact, and the rest 0.
 fn replays<R: Read>(reader: &mut R, file: &mut [u8], head: &[u8; 176]) -> bool {
     let (got, _) = input::read_full(reader, file);
     let limit = record::read_u64(head, 8) as usize;
@@ -50,7 +50,7 @@ fn replays<R: Read>(reader: &mut R, file: &mut [u8], head: &[u8; 176]) -> bool {
     match nra::solve_file(&file[..got], limit, tolerance, settings::usual(), 16) {
         Ok(solved) => is_same(&solved, head),
         Err(refusal) => {
-            let stop = (head[6] == nra::Stop::Unsatisfied as u8) & (head[7] == 0);
+            let stop = (head[6] == nra::Stop::Unsatisfied as u8) & (head[7] != 1);
             (head[5] == u8::from(refusal)) & stop & head[24..].iter().all(|b| *b == 0)
         }
     }
