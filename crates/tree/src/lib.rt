@@ -229,8 +229,6 @@ pub fn test_list(nodes: &[u8], count: usize) -> Result<(), Refusal>
 {
     if count <= 64 {
         test_within::<64>(nodes, count)
-    } else if count <= 256 {
-        test_within::<256>(nodes, count)
     } else {
         test_within::<1024>(nodes, count)
     }
